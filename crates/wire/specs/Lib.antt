@@ -1,0 +1,5 @@
+pub mod Fields
+pub mod Meaning
+pub mod CallBytes
+pub mod AnswerBytes
+pub mod Files
