@@ -3,6 +3,7 @@
 mod answers;
 mod calls;
 mod files;
+mod laws;
 
 pub use answers::Answer;
 pub use answers::Refusal;
@@ -13,3 +14,7 @@ pub use calls::read_call;
 pub use files::Head;
 pub use files::next_call;
 pub use files::read_head;
+pub use laws::answers_read_back;
+pub use laws::calls_read_back;
+pub use laws::files_read_back;
+pub use laws::places_are_right;

@@ -1,0 +1,114 @@
+-- What open and call make of lent words, whatever the words are; the desk made of these; and what is promised of whole sessions.
+-- Nothing is assumed.
+use mathlib.Core.Path.{_≡_}
+use mathlib.Core.Bool.{Bool, true, false}
+use mathlib.Core.List.{List, [], _∷_, _++_}
+use Prim.Native.Nat.{ℕ, _<_}
+use lib.Dec.{ltb, eqb}
+use lib.ListN.{length, drop}
+use Rattle.std.specs.declared.option.Option.{Option}
+use Rattle.std.specs.declared.option.Option.the-variants.{Some, None}
+use Rattle.std.specs.declared.result.Result.{Result}
+use Rattle.std.specs.declared.result.Result.the-variants.{Ok, Err}
+use Rattle.raise.specs.Rules.{pick, Rule}
+use Rattle.raise.specs.Calls.{Call, Answer, Limits, lays, lifts, left-of, next-row, safe, garbled, refused, number, two, turned, answer, answers}
+use Rattle.raise.specs.Promise.{Memory, Desk, ran}
+use Rattle.wire.specs.declared.answers.Refusal.{Refusal}
+use Rattle.wire.specs.Meaning.{refusal-number, refusal-place}
+use Rattle.book.specs.Held.{Book, asked, image, book-of, rules-in}
+
+-- the kinds of rules that can be done at this stage: none
+abbrev pub kinds : ℕ → Bool
+kinds k = false
+
+abbrev pub limited : ℕ → ℕ → Limits
+limited rules bound = record { rules-can = kinds; rules = rules; bound = bound }
+
+-- ---- open
+
+-- an opening that is accepted counts as the number 0
+abbrev pub said-open : Result (Unit {0}) Refusal → Answer
+said-open (Ok u) = number 0
+said-open (Err e) = refused (refusal-number e) (refusal-place e)
+
+-- more than 64 rules, a bound above 1,000,000,000, or memory smaller than is asked for: 3, at 0, 1 and 2
+abbrev pub opening : List ℕ → Limits → Answer
+opening ws l = pick (ltb 64 (l .rules)) (refused 3 0) (pick (ltb 1000000000 (l .bound)) (refused 3 1) (pick (ltb (length ws) (asked (l .rules))) (refused 3 2) (number 0)))
+
+-- the book that is opened
+abbrev pub empty : Limits → Book
+empty l = record { limit = l .rules; bound = l .bound }
+
+abbrev pub unless-refused : Answer → List ℕ → List ℕ → List ℕ
+unless-refused (refused k n) new old = old
+unless-refused (number n) new old = new
+unless-refused (two m n) new old = new
+
+-- the words after open: the opened book, and the words behind it as they were; all as they were after a refusal
+abbrev pub open-words : List ℕ → Limits → List ℕ
+open-words ws l = unless-refused (opening ws l) (image (empty l) ++ drop (asked (l .rules)) ws) ws
+
+-- ---- call
+
+abbrev pub limits : Book → Limits
+limits b = limited (b .limit) (b .bound)
+
+-- words that hold no opened book, or fewer words than it asks for: 3 at 2, unless the call can't be read
+abbrev pub without-book : Call → Answer
+without-book (lays r) = refused 3 2
+without-book (lifts i) = refused 3 2
+without-book (left-of g) = refused 3 2
+without-book (next-row g) = refused 3 2
+without-book (safe g) = refused 3 2
+without-book (garbled n) = refused 1 n
+
+abbrev pub says-in : Call → Option Book → Answer
+says-in c None = without-book c
+says-in c (Some b) = answer (limits b) (rules-in b) c
+
+-- an accepted call leaves the book after it, whole, and the words behind it as they were
+abbrev pub next-in : List ℕ → Call → Option Book → List ℕ
+next-in ws c None = ws
+next-in ws c (Some b) = pick (eqb (turned (limits b) (rules-in b) c) 0) (image b ++ drop (asked (b .limit)) ws) ws
+
+-- the answer to a call, and the words after it, for any words
+abbrev pub says-words : List ℕ → Call → Answer
+says-words ws c = says-in c (book-of ws)
+
+abbrev pub next-words : List ℕ → Call → List ℕ
+next-words ws c = next-in ws c (book-of ws)
+
+-- ---- the desk of the main promise, of nothing but these
+
+abbrev pub desk : Desk
+desk = record { opened = λ l. record { words = image (empty l) }; next = λ m c. record { words = next-words (m .words) c }; says = λ m c. says-words (m .words) c }
+
+-- ---- whole sessions on any lent words
+
+unfoldable pub told-words : List ℕ → List Call → List Answer
+told-words ws [] = []
+told-words ws (c ∷ cs) = says-words ws c ∷ told-words (next-words ws c) cs
+
+unfoldable pub left-words : List ℕ → List Call → List ℕ
+left-words ws [] = ws
+left-words ws (c ∷ cs) = left-words (next-words ws c) cs
+
+-- is an answer the refusal 3
+abbrev pub is-three : Answer → Bool
+is-three (refused k n) = eqb k 3
+is-three (number n) = false
+is-three (two m n) = false
+
+-- what an accepted opening makes of any words: from then on, for every list of calls, the answers are those of the written book;
+-- 3 never comes; a call that is turned away changes no word; and the words behind those asked for stay as they were before
+pub record Serves (l : Limits) (before now : List ℕ) : Type 0 where
+  pub right : (cs : List Call) → told-words now cs ≡ answers l [] cs
+  pub no-three : (cs : List Call) (c : Call) → is-three (says-words (left-words now cs) c) ≡ false
+  pub keeps : (cs : List Call) (c : Call) → 0 < turned l (ran l [] cs) c → next-words (left-words now cs) c ≡ left-words now cs
+  pub behind : (cs : List Call) → drop (asked (l .rules)) (left-words now cs) ≡ drop (asked (l .rules)) before
+
+-- the same of an opening that was accepted; one that was not has changed nothing
+abbrev pub Opened : Limits → Answer → List ℕ → List ℕ → Type 0
+Opened l (refused k n) before now = now ≡ before
+Opened l (number n) before now = Serves l before now
+Opened l (two m n) before now = Serves l before now
