@@ -1,1 +1,2 @@
 pub mod Nothing
+pub mod Runs

@@ -10,7 +10,7 @@ ghost use Rattle.std.specs.declared.option.Option.the-variants.{Some, None};
 ghost use Rattle.raise.specs.Rules.{pick};
 ghost use Rattle.raise.specs.Calls.{lays, lifts, left-of, next-row, safe};
 ghost use Rattle.raise.specs.Promise.{Right, Refusal-keeps, Enough-memory};
-ghost use Rattle.wire.specs.Meaning.{meant, says as answer-of};
+ghost use Rattle.wire.specs.Meaning.{asks, says as answer-of};
 ghost use Rattle.wire.specs.CallBytes.{call-of};
 ghost use Rattle.book.specs.Held.{asked};
 ghost use Rattle.book.specs.Value.{stands-for};
@@ -24,7 +24,6 @@ use raise::fine;
 use wire::Answer;
 use wire::Call;
 use wire::Refusal;
-use wire::Rule;
 use wire::read_call;
 
 // The value, if it is at most so much.
@@ -58,4 +57,114 @@ fn open_book(words: &mut [u64], rules: u32, bound: u32) -> Result<(), Refusal>
     };
     write_book(words, Book { limit, bound });
     Ok(())
+}
+
+// What comes in and what goes out.
+fn tell_left(words: &mut [u64], book: Book, gross: u32) -> Answer
+    requires { ⌜ asked (book .limit) ≤ length (now words) ⌝ }
+    ensures said { λ r. ⌜ answer-of r ≡ says-in (left-of gross) (Some (stands-for book)) ⌝ }
+    ensures words { λ _. ⌜ now (words .exit) ≡ next-in (now (words .entry)) (left-of gross) (Some (stands-for book)) ⌝ }
+{
+    let Some(gross) = at_most(gross, book.bound) else {
+        return Answer::Refused(Refusal::OutOfRange);
+    };
+    write_book(words, book);
+    Answer::Two(fine(gross), 0)
+}
+
+// Without rules nobody loses.
+fn tell_row(words: &mut [u64], book: Book, gross: u32) -> Answer
+    requires { ⌜ asked (book .limit) ≤ length (now words) ⌝ }
+    ensures said { λ r. ⌜ answer-of r ≡ says-in (next-row gross) (Some (stands-for book)) ⌝ }
+    ensures words { λ _. ⌜ now (words .exit) ≡ next-in (now (words .entry)) (next-row gross) (Some (stands-for book)) ⌝ }
+{
+    let Some(_) = at_most(gross, book.bound) else {
+        return Answer::Refused(Refusal::OutOfRange);
+    };
+    write_book(words, book);
+    Answer::Two(0, 0)
+}
+
+// Without rules the next unit is safe, if the bound allows for one.
+fn tell_safe(words: &mut [u64], book: Book, gross: u32) -> Answer
+    requires { ⌜ asked (book .limit) ≤ length (now words) ⌝ }
+    ensures said { λ r. ⌜ answer-of r ≡ says-in (safe gross) (Some (stands-for book)) ⌝ }
+    ensures words { λ _. ⌜ now (words .exit) ≡ next-in (now (words .entry)) (safe gross) (Some (stands-for book)) ⌝ }
+{
+    let Some(gross) = at_most(gross, book.bound) else {
+        return Answer::Refused(Refusal::OutOfRange);
+    };
+    write_book(words, book);
+    if gross < book.bound {
+        Answer::Number(u64::from(gross) + 2)
+    } else {
+        Answer::Number(0)
+    }
+}
+
+// No kind of rule can be done at this stage, so there is none to lift.
+fn reply(words: &mut [u64], call: Call) -> Answer
+    ensures said { λ r. ⌜ answer-of r ≡ says-words (now (words .entry)) (asks call) ⌝ }
+    ensures words { λ _. ⌜ now (words .exit) ≡ next-words (now (words .entry)) (asks call) ⌝ }
+{
+    let Some(book) = read_book(words) else {
+        return Answer::Refused(Refusal::MemoryTooSmall);
+    };
+    match call {
+        Call::Lay(_) => Answer::Refused(Refusal::OutOfRange),
+        Call::Lift(_) => Answer::Refused(Refusal::NoSuchRule),
+        Call::Left(gross) => tell_left(words, book, gross),
+        Call::Row(gross) => tell_row(words, book, gross),
+        Call::Safe(gross) => tell_safe(words, book, gross),
+    }
+}
+
+// Opens a book in the lent words, for so many rules and earnings up to so much.
+pub fn open(words: &mut [u64], rules: u32, bound: u32) -> Result<(), Refusal>
+    ensures said { λ r. ⌜ said-open r ≡ opening (now (words .entry)) (limited rules bound) ⌝ }
+    ensures words { λ _. ⌜ now (words .exit) ≡ open-words (now (words .entry)) (limited rules bound) ⌝ }
+    ensures opened { λ r. ⌜ Opened (limited rules bound) (said-open r) (now (words .entry)) (now (words .exit)) ⌝ }
+{
+    open_book(words, rules, bound)
+}
+
+fn read_and_reply(words: &mut [u64], bytes: &[u8]) -> Answer
+    ensures said { λ r. ⌜ answer-of r ≡ says-words (now (words .entry)) (call-of (now (bytes .entry))) ⌝ }
+    ensures words { λ _. ⌜ now (words .exit) ≡ next-words (now (words .entry)) (call-of (now (bytes .entry))) ⌝ }
+{
+    match read_call(bytes) {
+        Ok(call) => reply(words, call),
+        Err(garbled) => Answer::Refused(Refusal::Unreadable {
+            place: garbled.place,
+        }),
+    }
+}
+
+// Answers the call that the bytes are. The promise holds for whole lists of calls.
+pub fn call(words: &mut [u64], bytes: &[u8]) -> Answer
+    ensures said { λ r. ⌜ answer-of r ≡ says-words (now (words .entry)) (call-of (now (bytes .entry))) ⌝ }
+    ensures words { λ _. ⌜ now (words .exit) ≡ next-words (now (words .entry)) (call-of (now (bytes .entry))) ⌝ }
+    ensures right { λ _. ⌜ Right kinds desk ⌝ }
+    ensures keeps { λ _. ⌜ Refusal-keeps kinds desk ⌝ }
+    ensures enough { λ _. ⌜ Enough-memory desk ⌝ }
+{
+    read_and_reply(words, bytes)
+}
+
+// The same with the answer's 24 bytes in `out`, and how many were written: none, and nothing is changed, where `out` is
+// too short.
+pub fn serve(words: &mut [u64], bytes: &[u8], out: &mut [u8]) -> usize
+    ensures count { λ r. ⌜ r ≡ if-room (now (out .entry)) 24 0 ⌝ }
+    ensures out { λ _. ⌜ now (out .exit) ≡ if-room (now (out .entry)) (says-bytes (now (words .entry)) (now (bytes .entry)) ++ drop 24 (now (out .entry))) (now (out .entry)) ⌝ }
+    ensures words { λ _. ⌜ now (words .exit) ≡ if-room (now (out .entry)) (next-bytes (now (words .entry)) (now (bytes .entry))) (now (words .entry)) ⌝ }
+    ensures right { λ _. ⌜ Right-bytes ⌝ }
+    ensures keeps { λ _. ⌜ Refusal-keeps-bytes ⌝ }
+    ensures enough { λ _. ⌜ Enough-memory-bytes ⌝ }
+{
+    if out.len() < 24 {
+        return 0;
+    }
+    let answer = call(words, bytes);
+    out[0..24].copy_from_slice(&answer.to_bytes());
+    24
 }
