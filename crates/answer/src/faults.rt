@@ -24,7 +24,10 @@ pub impl From<AllocError> for Fault as FaultFromAllocError {
 pub impl fmt::Display for Fault as FaultDisplay {
     fn fmt<W: fmt::Write>(&self, f: &mut fmt::Formatter<W>) -> fmt::Result {
         match self {
-            Fault::Usage => write!(f, "usage: answer [FILE], one file of calls, or standard input"),
+            Fault::Usage => write!(
+                f,
+                "usage: answer [FILE], one file of calls, or standard input"
+            ),
             Fault::File(name, why) => write!(f, "{name}: {why}"),
             Fault::Input(why) => write!(f, "standard input: {why}"),
             Fault::Output(why) => write!(f, "standard output: {why}"),

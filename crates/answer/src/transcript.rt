@@ -40,7 +40,12 @@ fn answer_calls(words: &mut [u64], calls: &[u8], out: &mut String) -> Result<(),
 }
 
 // A refusal at opening is the only line.
-fn answer_all(words: &mut [u64], head: Head, calls: &[u8], out: &mut String) -> Result<(), AllocError>
+fn answer_all(
+    words: &mut [u64],
+    head: Head,
+    calls: &[u8],
+    out: &mut String,
+) -> Result<(), AllocError>
     ensures { λ r. ⌜ made r (λ _. string-bytes (now (out .exit)) ≡ string-bytes (now (out .entry)) ++ told-in (now (words .entry)) (limited (head .rules) (head .bound)) (now (calls .entry))) ⌝ }
 {
     match open(words, head.rules, head.bound) {

@@ -39,9 +39,12 @@ abbrev pub head-fine : List ℕ → Bool
 head-fine ws =
     eqb (getD ws 0 0) tag && (leb (getD ws 1 0) 64 && (leb (getD ws 2 0) 1000000000 && (eqb (getD ws 3 0) 0 && leb (asked (getD ws 1 0)) (length ws))))
 
+abbrev pub front-of : List ℕ → Option Book
+front-of ws = pick (head-fine ws) (Some (record { limit = getD ws 1 0; bound = getD ws 2 0 })) None
+
 -- the book that words hold, if they hold one; nothing is asked of the words behind the front
 unfoldable pub book-of : List ℕ → Option Book
-book-of ws = pick (head-fine ws) (Some (record { limit = getD ws 1 0; bound = getD ws 2 0 })) None
+book-of ws = front-of ws
 
 -- what an opened book keeps to
 pub record Good (b : Book) : Type 0 where

@@ -4,7 +4,7 @@ ghost use mathlib.Core.Path.{_≡_};
 ghost use mathlib.Core.List.{_++_};
 ghost use Prim.Native.Nat.{_+_, _*_, _≤_};
 ghost use lib.ListN.{length, drop};
-ghost use Rattle.book.specs.Held.{asked, image, book-of, Reads-back, Holds-good, Images-differ};
+ghost use Rattle.book.specs.Held.{asked, head-words, image, front-of, book-of, Reads-back, Holds-good, Images-differ};
 ghost use Rattle.book.specs.Value.{stands-for, stands-if};
 
 // Says that an opened book of this format is here: "book" in ASCII.
@@ -25,9 +25,9 @@ pub fn words_asked(rules: u32) -> usize
     32 * rules as usize + 64
 }
 
-// The book that the words hold, if they hold one.
-pub fn read_book(words: &[u64]) -> Option<Book>
-    ensures { λ r. ⌜ stands-if r ≡ book-of (now (words .entry)) ⌝ }
+// The front of the words, checked, and whether there are as many as it asks for.
+fn read_front(words: &[u64]) -> Option<Book>
+    ensures { λ r. ⌜ stands-if r ≡ front-of (now (words .entry)) ⌝ }
 {
     let [TAG, limit @ 0..=64, bound @ 0..=1_000_000_000, 0, ..] = words else {
         return None;
@@ -40,12 +40,26 @@ pub fn read_book(words: &[u64]) -> Option<Book>
     Some(Book { limit, bound })
 }
 
+// The book that the words hold, if they hold one.
+pub fn read_book(words: &[u64]) -> Option<Book>
+    ensures { λ r. ⌜ stands-if r ≡ book-of (now (words .entry)) ⌝ }
+{
+    read_front(words)
+}
+
+fn write_front(words: &mut [u64], book: Book)
+    requires { ⌜ 4 ≤ length (now words) ⌝ }
+    ensures { λ _. ⌜ now (words .exit) ≡ head-words (book .limit) (book .bound) 0 ++ drop 4 (now (words .entry)) ⌝ }
+{
+    words[0..4].copy_from_slice(&[TAG, book.limit as u64, book.bound as u64, 0]);
+}
+
 // The book's image, in the first words; the words beyond stay.
 pub fn write_book(words: &mut [u64], book: Book)
     requires { ⌜ asked (book .limit) ≤ length (now words) ⌝ }
     ensures { λ _. ⌜ now (words .exit) ≡ image (stands-for book) ++ drop (asked (book .limit)) (now (words .entry)) ⌝ }
 {
-    words[0..4].copy_from_slice(&[TAG, book.limit as u64, book.bound as u64, 0]);
+    write_front(words, book);
     words[4..words_asked(book.limit)].fill(0);
 }
 

@@ -38,7 +38,11 @@ fn room_for(words: &[u64], rules: u32) -> Option<usize>
     ensures { λ r. ⌜ r ≡ pick (leb (asked rules) (length (now (words .entry)))) (Some (asked rules)) None ⌝ }
 {
     let asked = words_asked(rules);
-    if words.len() < asked { None } else { Some(asked) }
+    if words.len() < asked {
+        None
+    } else {
+        Some(asked)
+    }
 }
 
 // Checks the limits and the room in this order, and writes an empty book.
@@ -151,6 +155,19 @@ pub fn call(words: &mut [u64], bytes: &[u8]) -> Answer
     read_and_reply(words, bytes)
 }
 
+fn serve_call(words: &mut [u64], bytes: &[u8], out: &mut [u8]) -> usize
+    ensures count { λ r. ⌜ r ≡ if-room (now (out .entry)) 24 0 ⌝ }
+    ensures out { λ _. ⌜ now (out .exit) ≡ if-room (now (out .entry)) (says-bytes (now (words .entry)) (now (bytes .entry)) ++ drop 24 (now (out .entry))) (now (out .entry)) ⌝ }
+    ensures words { λ _. ⌜ now (words .exit) ≡ if-room (now (out .entry)) (next-bytes (now (words .entry)) (now (bytes .entry))) (now (words .entry)) ⌝ }
+{
+    if out.len() < 24 {
+        return 0;
+    }
+    let answer = read_and_reply(words, bytes);
+    out[0..24].copy_from_slice(&answer.to_bytes());
+    24
+}
+
 // The same with the answer's 24 bytes in `out`, and how many were written: none, and nothing is changed, where `out` is
 // too short.
 pub fn serve(words: &mut [u64], bytes: &[u8], out: &mut [u8]) -> usize
@@ -161,10 +178,5 @@ pub fn serve(words: &mut [u64], bytes: &[u8], out: &mut [u8]) -> usize
     ensures keeps { λ _. ⌜ Refusal-keeps-bytes ⌝ }
     ensures enough { λ _. ⌜ Enough-memory-bytes ⌝ }
 {
-    if out.len() < 24 {
-        return 0;
-    }
-    let answer = call(words, bytes);
-    out[0..24].copy_from_slice(&answer.to_bytes());
-    24
+    serve_call(words, bytes, out)
 }

@@ -5,7 +5,7 @@ use Prim.Native.Nat.{ℕ, zero, suc, _+_, _*_, _/_, _%_, _<_, _≤_}
 use native.Mathlib.Omega.{arith}
 use lib.ListN.{length, getD, take, drop}
 use Rattle.std.proofs.shelf.Lists.{drop-more}
-use Rattle.wire.specs.Fields.{bytes-of, number-of, number-at}
+use Rattle.wire.specs.Fields.{bytes-of, number-of, number-at, four-bytes}
 
 -- one byte more, from the front
 more : (k : ℕ) (bs : List ℕ) (i j : ℕ) → i < length bs → j ≡ i + 1 → number-at (suc k) bs i ≡ getD bs i 0 + 256 * number-at k bs j
@@ -17,8 +17,7 @@ unfolding number-of
 none bs i = refl
 
 -- what `from_le_bytes` answers
-pub four-at : (bs : List ℕ) (i : ℕ) → i + 4 ≤ length bs →
-    number-at 4 bs i ≡ getD bs i 0 + getD bs (i + 1) 0 * 256 + getD bs (i + 2) 0 * 65536 + getD bs (i + 3) 0 * 16777216
+pub four-at : (bs : List ℕ) (i : ℕ) → i + 4 ≤ length bs → number-at 4 bs i ≡ four-bytes bs i
 four-at bs i h =
     let a = more 3 bs i (i + 1) (omega arith) refl in
     let b = more 2 bs (i + 1) (i + 2) (omega arith) (omega arith) in
@@ -29,7 +28,7 @@ four-at bs i h =
 
 pub eight-at : (bs : List ℕ) (i : ℕ) → i + 8 ≤ length bs →
     number-at 8 bs i ≡ getD bs i 0 + getD bs (i + 1) 0 * 256 + getD bs (i + 2) 0 * 65536 + getD bs (i + 3) 0 * 16777216 + getD bs (i + 4) 0 * 4294967296
-      + getD bs (i + 5) 0 * 1099511627776 + getD bs (i + 6) 0 * 281474976710656 + getD bs (i + 7) 0 * 72057594037927936
+    + getD bs (i + 5) 0 * 1099511627776 + getD bs (i + 6) 0 * 281474976710656 + getD bs (i + 7) 0 * 72057594037927936
 eight-at bs i h =
     let a = more 7 bs i (i + 1) (omega arith) refl in
     let b = more 6 bs (i + 1) (i + 2) (omega arith) (omega arith) in

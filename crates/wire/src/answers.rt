@@ -50,7 +50,8 @@ impl Refusal {
             Refusal::Unreadable { place } => place,
             Refusal::BoundTooHigh => 1,
             Refusal::MemoryTooSmall => 2,
-            Refusal::OutOfRange | Refusal::TooManyRules | Refusal::NoSuchRule | Refusal::BookFull => 0,
+            Refusal::OutOfRange | Refusal::TooManyRules | Refusal::NoSuchRule | Refusal::BookFull =>
+                0,
         }
     }
     // The refusal of this number and place, if there is one.
@@ -116,7 +117,7 @@ impl Answer {
     }
 }
 
-// The number of the eight bytes at `at`.
+// The number of the eight bytes at `at`, low byte first.
 fn word(bytes: &[u8], at: usize) -> u64
     requires { ⌜ at + 8 ≤ length (now bytes) ⌝ }
     ensures { λ r. ⌜ r ≡ number-at 8 (now (bytes .entry)) at ⌝ }

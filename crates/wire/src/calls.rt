@@ -1,13 +1,13 @@
 // Rules and calls, and how they are read from bytes.
 ghost use mathlib.Core.Path.{_≡_};
-ghost use Prim.Native.Nat.{_+_, _<_};
+ghost use Prim.Native.Nat.{_+_, _<_, _≤_};
 ghost use lib.Dec.{ltb};
-ghost use lib.ListN.{length};
+ghost use lib.ListN.{length, drop};
 ghost use Rattle.std.specs.declared.option.Option.the-variants.{Some, None};
 ghost use Rattle.raise.specs.Rules.{pick};
-ghost use Rattle.wire.specs.Fields.{number-at};
-ghost use Rattle.wire.specs.Meaning.{meant-or, field-or, asks-or};
-ghost use Rattle.wire.specs.CallBytes.{rule-of, one-field, call-of};
+ghost use Rattle.wire.specs.Fields.{number-at, four-bytes};
+ghost use Rattle.wire.specs.Meaning.{meant, meant-or, field-or, asks-or};
+ghost use Rattle.wire.specs.CallBytes.{rule-from, rule-of, laid, one-field, call-of};
 
 // A rule; rates are in ten-thousandths of a unit, sums in units.
 #[derive(Clone, Copy)]
@@ -16,7 +16,7 @@ pub enum Rule {
     Give { from: u32, to: u32, rate: u32 },
     TakeSum { from: u32, to: u32, sum: u32 },
     GiveSum { from: u32, to: u32, sum: u32 },
-    Fade { border: u32, rate: u32, sum: u32 },
+    Fade { from: u32, rate: u32, sum: u32 },
 }
 
 // What is asked: a rule laid or lifted, or a question about an earning.
@@ -35,7 +35,15 @@ pub struct Garbled {
     pub place: u64,
 }
 
-// The number of the four bytes at `at`, if they are there.
+// The number of the four bytes at `at`, low byte first.
+fn low_first(bytes: &[u8], at: usize) -> u32
+    requires { ⌜ at + 4 ≤ length (now bytes) ⌝ }
+    ensures { λ r. ⌜ r ≡ four-bytes (now (bytes .entry)) at ⌝ }
+{
+    u32::from_le_bytes([bytes[at], bytes[at + 1], bytes[at + 2], bytes[at + 3]])
+}
+
+// The field at `at`, if its four bytes are there.
 pub(crate) fn field(bytes: &[u8], at: usize) -> Option<u32>
     requires { ⌜ at < 1000 ⌝ }
     ensures { λ r. ⌜ r ≡ pick (ltb (length (now (bytes .entry))) (at + 4)) None (Some (number-at 4 (now (bytes .entry)) at)) ⌝ }
@@ -43,7 +51,48 @@ pub(crate) fn field(bytes: &[u8], at: usize) -> Option<u32>
     if bytes.len() < at + 4 {
         return None;
     }
-    Some(u32::from_le_bytes([bytes[at], bytes[at + 1], bytes[at + 2], bytes[at + 3]]))
+    Some(low_first(bytes, at))
+}
+
+// Bytes that end too early: the place is their number.
+fn ends_early(bytes: &[u8]) -> Garbled
+    ensures { λ r. ⌜ r .place ≡ length (now (bytes .entry)) ⌝ }
+{
+    let place = bytes.len() as u64;
+    Garbled { place }
+}
+
+// The rule of a kind from 0 to 4, by its three fields.
+fn rule_of_kind(kind: u8, from: u32, second: u32, last: u32) -> Rule
+    ensures { λ r. ⌜ meant r ≡ rule-from kind from second last ⌝ }
+{
+    match kind {
+        0 => Rule::Take {
+            from,
+            to: second,
+            rate: last,
+        },
+        1 => Rule::Give {
+            from,
+            to: second,
+            rate: last,
+        },
+        2 => Rule::TakeSum {
+            from,
+            to: second,
+            sum: last,
+        },
+        3 => Rule::GiveSum {
+            from,
+            to: second,
+            sum: last,
+        },
+        _ => Rule::Fade {
+            from,
+            rate: second,
+            sum: last,
+        },
+    }
 }
 
 // The rule that a part of a call's bytes is, all of it.
@@ -53,38 +102,46 @@ fn read_rule(part: &[u8]) -> Result<Rule, Garbled>
     let [kind @ 0..=4, ..] = part else {
         return Err(Garbled { place: 0 });
     };
-    let Some(a) = field(part, 1) else {
-        return Err(Garbled { place: part.len() as u64 });
+    let Some(from) = field(part, 1) else {
+        return Err(ends_early(part));
     };
-    let Some(b) = field(part, 5) else {
-        return Err(Garbled { place: part.len() as u64 });
+    let Some(second) = field(part, 5) else {
+        return Err(ends_early(part));
     };
-    let Some(c) = field(part, 9) else {
-        return Err(Garbled { place: part.len() as u64 });
+    let Some(last) = field(part, 9) else {
+        return Err(ends_early(part));
     };
     if part.len() > 13 {
         return Err(Garbled { place: 13 });
     }
-    Ok(match *kind {
-        0 => Rule::Take { from: a, to: b, rate: c },
-        1 => Rule::Give { from: a, to: b, rate: c },
-        2 => Rule::TakeSum { from: a, to: b, sum: c },
-        3 => Rule::GiveSum { from: a, to: b, sum: c },
-        _ => Rule::Fade { border: a, rate: b, sum: c },
-    })
+    Ok(rule_of_kind(*kind, from, second, last))
 }
 
-// The call's one field.
+// The one field of a call, and nothing after it.
 fn read_field(bytes: &[u8]) -> Result<u32, Garbled>
     ensures { λ r. ⌜ field-or r ≡ one-field (now (bytes .entry)) ⌝ }
 {
     let Some(value) = field(bytes, 1) else {
-        return Err(Garbled { place: bytes.len() as u64 });
+        return Err(ends_early(bytes));
     };
     if bytes.len() > 5 {
         return Err(Garbled { place: 5 });
     }
     Ok(value)
+}
+
+// The rule that is laid: the part of the bytes after the kind of the call.
+fn read_lay(bytes: &[u8]) -> Result<Call, Garbled>
+    requires { ⌜ 0 < length (now bytes) ⌝ }
+    ensures { λ r. ⌜ asks-or r ≡ laid (rule-of (drop 1 (now (bytes .entry)))) ⌝ }
+{
+    match read_rule(&bytes[1..]) {
+        Ok(rule) => Ok(Call::Lay(rule)),
+        Err(garbled) => {
+            let place = garbled.place + 1;
+            Err(Garbled { place })
+        }
+    }
 }
 
 // The call that the bytes are, all of them, or the place of the first that doesn't fit.
@@ -95,16 +152,14 @@ pub fn read_call(bytes: &[u8]) -> Result<Call, Garbled>
         return Err(Garbled { place: 0 });
     };
     if *kind == 0 {
-        return match read_rule(&bytes[1..]) {
-            Ok(rule) => Ok(Call::Lay(rule)),
-            Err(garbled) => Err(Garbled { place: garbled.place + 1 }),
-        };
+        return read_lay(bytes);
     }
     let value = read_field(bytes)?;
-    Ok(match *kind {
+    let call = match *kind {
         1 => Call::Lift(value),
         2 => Call::Left(value),
         3 => Call::Row(value),
         _ => Call::Safe(value),
-    })
+    };
+    Ok(call)
 }

@@ -1,7 +1,6 @@
 // A file of calls: its head, and the cut into calls.
 ghost use mathlib.Core.Path.{_≡_};
 ghost use Prim.Native.Nat.{_<_, _≤_};
-ghost use mathlib.Core.List.{[]};
 ghost use lib.ListN.{length};
 ghost use Rattle.std.specs.Options.{Cases as BySome};
 ghost use Rattle.wire.specs.Fields.{number-at};
@@ -30,7 +29,7 @@ pub fn read_head(file: &[u8]) -> Option<Head>
 
 // The first call of what follows the head, and what follows that call; none where nothing is left.
 pub fn next_call(rest: &[u8]) -> Option<(&[u8], &[u8])>
-    ensures { λ r. ⌜ BySome r (now (rest .entry) ≡ []) (λ p. (0 < length (now (rest .entry))) × (now (p .0) ≡ first-call (now (rest .entry))) × (now (p .1) ≡ after-call (now (rest .entry)))) ⌝ }
+    ensures { λ r. ⌜ BySome r (length (now (rest .entry)) ≡ 0) (λ p. (0 < length (now (rest .entry))) × (now (p .0) ≡ first-call (now (rest .entry))) × (now (p .1) ≡ after-call (now (rest .entry)))) ⌝ }
 {
     if rest.is_empty() {
         return None;

@@ -5,7 +5,7 @@ use native.Mathlib.Omega.{arith}
 use lib.Chars.{codes}
 use lib.ListN.{length}
 use Rattle.std.specs.Of.String.{string-bytes}
-use Rattle.std.proofs.shelf.Lists.{append-nil}
+use Rattle.std.proofs.shelf.Lists.{append-nil, nil-from-length}
 use Rattle.raise.specs.Calls.{Call, Answer}
 use Rattle.wire.specs.CallBytes.{call-of}
 use Rattle.wire.specs.Files.{first-call, after-call}
@@ -45,5 +45,5 @@ pub returns : need.returns
 returns c =
     let ws = c .loop-bytes .words in
     let out = string-bytes (c .loop-bytes .out) in
-    let z : lines-on ws (c .loop-bytes .rest .now) ≡ [] = ap (lines-on ws) (c .in-rest .ensures tt) ∙ lines-none ws in
+    let z : lines-on ws (c .loop-bytes .rest .now) ≡ [] = ap (lines-on ws) (nil-from-length (c .loop-bytes .rest .now) (c .in-rest .ensures tt)) ∙ lines-none ws in
     sym (append-nil out) ∙ ap (λ (x : List ℕ). out ++ x) (sym z) ∙ c .loop-bytes .inv

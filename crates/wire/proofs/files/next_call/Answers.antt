@@ -3,14 +3,11 @@ use mathlib.Core.List.{List, [], _∷_}
 use Prim.Native.Nat.{ℕ, min, _+_, _-_, _<_, _≤_}
 use native.Mathlib.Omega.{arith}
 use lib.ListN.{length, take, drop}
-use Rattle.std.proofs.shelf.Lists.{take-rest, take-all, drop-all, nil-from-length}
+use Rattle.std.proofs.shelf.Lists.{take-rest, take-all, drop-all}
 use Rattle.std.proofs.shelf.Ways.{tells}
 use Rattle.wire.specs.Fields.{number-at}
 use Rattle.wire.proofs.Cuts.{cut-at}
 use Rattle.wire.proofs.files.next_call.Needs as need
-
-pub returns-then-is-empty : need.returns-then-is-empty
-returns-then-is-empty c = nil-from-length (c .args .rest .now) (grind (arith, tells))
 
 pub returns-in-rest : need.returns-in-rest
 returns-in-rest c =

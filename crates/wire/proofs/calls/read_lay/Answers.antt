@@ -1,7 +1,7 @@
 use native.Mathlib.Omega.{arith}
 use Rattle.std.proofs.shelf.Lists.{take-rest}
 use Rattle.std.proofs.shelf.Ways.{tells}
-use Rattle.wire.proofs.calls.read_call.Needs as need
+use Rattle.wire.proofs.calls.read_lay.Needs as need
 
 pub returns-in-Ok : need.returns-in-Ok
 returns-in-Ok c = let e = rw take-rest at (c .in-Ok .ensures tt) in grind (arith, tells)
