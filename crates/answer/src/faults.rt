@@ -31,10 +31,17 @@ pub impl fmt::Display for Fault as FaultDisplay {
             Fault::File(name, why) => write!(f, "{name}: {why}"),
             Fault::Input(why) => write!(f, "standard input: {why}"),
             Fault::Output(why) => write!(f, "standard output: {why}"),
-            Fault::Head(bytes) => write!(
-                f,
-                "a file of calls begins with the limit of rules and the bound, four bytes each: 8 are wanted, there are {bytes}"
-            ),
+            Fault::Head(bytes) => {
+                let missing = if *bytes < 4 {
+                    "the limit of rules and the bound are missing"
+                } else {
+                    "the bound is missing"
+                };
+                write!(
+                    f,
+                    "the file has {bytes} bytes, and its head has 8: {missing}"
+                )
+            }
             Fault::Memory => write!(f, "out of memory"),
         }
     }

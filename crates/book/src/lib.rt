@@ -41,8 +41,12 @@ fn read_front(words: &[u64]) -> Option<Book>
 }
 
 // The book that the words hold, if they hold one.
+// What was written is read back, what is read is within limits, and different books are different words.
 pub fn read_book(words: &[u64]) -> Option<Book>
-    ensures { λ r. ⌜ stands-if r ≡ book-of (now (words .entry)) ⌝ }
+    ensures book { λ r. ⌜ stands-if r ≡ book-of (now (words .entry)) ⌝ }
+    ensures back { λ _. ⌜ Reads-back ⌝ }
+    ensures good { λ _. ⌜ Holds-good ⌝ }
+    ensures differ { λ _. ⌜ Images-differ ⌝ }
 {
     read_front(words)
 }
@@ -61,13 +65,4 @@ pub fn write_book(words: &mut [u64], book: Book)
 {
     write_front(words, book);
     words[4..words_asked(book.limit)].fill(0);
-}
-
-// What was written reads back, what is read is within limits, and different books are different words.
-pub fn images_read_back() -> u8
-    ensures back { λ _. ⌜ Reads-back ⌝ }
-    ensures good { λ _. ⌜ Holds-good ⌝ }
-    ensures differ { λ _. ⌜ Images-differ ⌝ }
-{
-    0
 }

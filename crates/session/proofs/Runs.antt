@@ -6,20 +6,20 @@ use mathlib.Core.List.{List, [], _∷_, _++_, map}
 use Prim.Native.Nat.{ℕ, zero, suc, _+_, _*_, _≤_, _<_}
 use native.Mathlib.Omega.{arith}
 use lib.Dec.{ltb, leb, eqb}
-use lib.ListN.{length, drop}
+use lib.ListN.{length, drop, replicate}
 use Rattle.std.specs.declared.option.Option.{Option}
 use Rattle.std.specs.declared.option.Option.the-variants.{Some, None}
-use Rattle.std.proofs.shelf.Lists.{append-nil, drop-at}
-use Rattle.std.proofs.shelf.Tests.{cases-bool, ltb-true, ltb-false}
+use Rattle.std.proofs.shelf.Lists.{append-nil, drop-at, drop-all, length-replicate}
+use Rattle.std.proofs.shelf.Tests.{cases-bool, le-ltb, ltb-false}
 use Rattle.std.proofs.shelf.Ways.{tells}
 use Rattle.raise.specs.Rules.{pick, Rule}
-use Rattle.raise.specs.Calls.{Call, Answer, Limits, lays, lifts, left-of, next-row, safe, garbled, refused, number, two, turned, changed, after, told, row-from, answer, answers}
+use Rattle.raise.specs.Calls.{Call, Answer, Limits, lays, lifts, left-of, next-row, safe, garbled, refused, turned, place, changed, after, told, row-from, answer, answers}
 use Rattle.raise.specs.Promise.{Memory, Desk, Good-limits, told-by, left-by, ran, all-below, Right, Refusal-keeps, Enough-memory}
 use Rattle.wire.specs.CallBytes.{call-of}
 use Rattle.wire.specs.AnswerBytes.{answer-bytes}
 use Rattle.book.specs.Held.{Book, Good, asked, image, book-of, rules-in}
 use Rattle.book.proofs.Laws.{image-reads, image-long, image-below}
-use Rattle.session.specs.Memory.{kinds, limited, opening, empty, unless-refused, open-words, limits, says-in, next-in, says-words, next-words, desk, told-words, left-words, is-three, Serves, Opened}
+use Rattle.session.specs.Memory.{kinds, limited, opening, empty, open-words, opened-words, limits, says-in, next-in, says-words, next-words, desk, told-words, left-words, is-three, Serves, Opened}
 use Rattle.session.specs.Bytes.{told-bytes, left-bytes, Right-bytes, Refusal-keeps-bytes, Enough-memory-bytes}
 use Rattle.session.proofs.Nothing.{accepts-lay, accepts-lift}
 
@@ -131,6 +131,17 @@ unfolding left-by left-words
 left-desk ws [] = refl
 left-desk ws (c ∷ cs) = left-desk (next-words ws c) cs
 
+-- a book that is opened in just the words that it asks for is its image
+opened-image : (l : Limits) → Good-limits l → opened-words l ≡ image (empty l)
+opened-image l h =
+    let zs = replicate {A = ℕ} (asked (l .rules)) 0 in
+    let n : length zs ≡ asked (l .rules) = length-replicate (asked (l .rules)) 0 in
+    let a = le-ltb 64 (l .rules) (h .0) in
+    let b = le-ltb 1000000000 (l .bound) (h .1) in
+    let c = le-ltb (length zs) (asked (l .rules)) (omega arith) in
+    let d : drop (asked (l .rules)) zs ≡ [] = drop-all (asked (l .rules)) zs (omega arith) in
+    rw (a, b, c, d) (append-nil (image (empty l)))
+
 -- an image alone, with nothing behind it
 told-image : (b : Book) (cs : List Call) → Good b → told-words (image b) cs ≡ answers (limits b) [] cs
 told-image b cs g = ap (λ (ws : List ℕ). told-words ws cs) (sym (append-nil (image b))) ∙ told-behind b [] cs g
@@ -147,24 +158,27 @@ same-limits l e = ap (λ (k : ℕ → Bool). record { rules-can = k; rules = l .
 
 pub right : Right kinds desk
 right l cs h e r =
-    told-desk (image (empty l)) cs ∙ told-image (empty l) cs (good-empty l h) ∙ ap (λ (m : Limits). answers m [] cs) (same-limits l e)
+    told-desk (opened-words l) cs ∙ ap (λ (ws : List ℕ). told-words ws cs) (opened-image l h) ∙
+    told-image (empty l) cs (good-empty l h) ∙ ap (λ (m : Limits). answers m [] cs) (same-limits l e)
+
+left-opened : (l : Limits) (cs : List Call) → Good-limits l → left-words (opened-words l) cs ≡ image (empty l)
+left-opened l cs h = ap (λ (ws : List ℕ). left-words ws cs) (opened-image l h) ∙ left-image (empty l) cs (good-empty l h)
+
+left-by-desk : (l : Limits) (cs : List Call) → Good-limits l → left-by desk (desk .opened l) cs ≡ record { words = image (empty l) }
+left-by-desk l cs h = left-desk (opened-words l) cs ∙ ap (λ (ws : List ℕ). record { words = ws }) (left-opened l cs h)
 
 pub refusal-keeps : Refusal-keeps kinds desk
 refusal-keeps l cs c h e r t =
-    let b = empty l in
-    let g = good-empty l h in
-    let d : left-by desk (desk .opened l) cs ≡ record { words = image b } = left-desk (image b) cs ∙ ap (λ (ws : List ℕ). record { words = ws }) (left-image b cs g) in
-    ap (λ (m : Memory). desk .next m c) d ∙ ap (λ (ws : List ℕ). record { words = ws }) (next-image b c g) ∙ sym d
+    let d = left-by-desk l cs h in
+    ap (λ (m : Memory). desk .next m c) d ∙ ap (λ (ws : List ℕ). record { words = ws }) (next-image (empty l) c (good-empty l h)) ∙ sym d
 
 within : (l : Limits) → Good-limits l → (length (image (empty l)) ≤ 64 * l .rules + 256) × (all-below 18446744073709551616 (image (empty l)) ≡ true)
 within l h = (omega (arith, image-long (empty l)), image-below (empty l) (good-empty l h))
 
 pub enough-memory : Enough-memory desk
 enough-memory l cs h r =
-    let b = empty l in
-    let d : left-by desk (desk .opened l) cs ≡ record { words = image b } = left-desk (image b) cs ∙ ap (λ (ws : List ℕ). record { words = ws }) (left-image b cs (good-empty l h)) in
     let P : Memory → Type 0 = λ m. (length (m .words) ≤ 64 * l .rules + 256) × (all-below 18446744073709551616 (m .words) ≡ true) in
-    subst P (sym d) (within l h)
+    subst P (sym (left-by-desk l cs h)) (within l h)
 
 -- ---- the same on bytes
 
@@ -178,12 +192,13 @@ unfolding left-bytes left-words
 left-as-bytes ws [] = refl
 left-as-bytes ws (bs ∷ bss) = left-as-bytes (next-words ws (call-of bs)) bss
 
-stays : (l : Limits) (bss : List (List ℕ)) → Good-limits l → left-bytes (image (empty l)) bss ≡ image (empty l)
-stays l bss h = left-as-bytes (image (empty l)) bss ∙ left-image (empty l) (map call-of bss) (good-empty l h)
+stays : (l : Limits) (bss : List (List ℕ)) → Good-limits l → left-bytes (opened-words l) bss ≡ image (empty l)
+stays l bss h = left-as-bytes (opened-words l) bss ∙ left-opened l (map call-of bss) h
 
 pub right-bytes : Right-bytes
 right-bytes l bss h e =
-    told-as-bytes (image (empty l)) bss ∙ ap (map answer-bytes) (told-image (empty l) (map call-of bss) (good-empty l h) ∙ ap (λ (m : Limits). answers m [] (map call-of bss)) (same-limits l e))
+    told-as-bytes (opened-words l) bss ∙
+    ap (map answer-bytes) (ap (λ (ws : List ℕ). told-words ws (map call-of bss)) (opened-image l h) ∙ told-image (empty l) (map call-of bss) (good-empty l h) ∙ ap (λ (m : Limits). answers m [] (map call-of bss)) (same-limits l e))
 
 pub refusal-keeps-bytes : Refusal-keeps-bytes
 refusal-keeps-bytes l bss bs h e t =
@@ -197,7 +212,7 @@ enough-memory-bytes l bss h =
 -- ---- bytes that are no call
 
 pub garbled-says : (n : ℕ) (o : Option Book) → says-in (garbled n) o ≡ refused 1 n
-unfolding turned Rattle.raise.specs.Calls.place
+unfolding turned place
 garbled-says n None = refl
 garbled-says n (Some b) = refl
 

@@ -10,8 +10,7 @@ use Rattle.raise.specs.Calls.{Call, Limits, turned, answers}
 use Rattle.raise.specs.Promise.{Good-limits, ran, all-below}
 use Rattle.wire.specs.CallBytes.{call-of}
 use Rattle.wire.specs.AnswerBytes.{answer-bytes}
-use Rattle.book.specs.Held.{image}
-use Rattle.session.specs.Memory.{kinds, empty, says-words, next-words}
+use Rattle.session.specs.Memory.{kinds, opened-words, says-words, next-words}
 
 -- the bytes that are answered, and the words after it
 abbrev pub says-bytes : List ℕ → List ℕ → List ℕ
@@ -34,16 +33,16 @@ left-bytes ws (bs ∷ bss) = left-bytes (next-bytes ws bs) bss
 
 -- for any lists of bytes, calls or not: the bytes answered are those of the written book's answers
 abbrev pub Right-bytes : Type 0
-Right-bytes = (l : Limits) (bss : List (List ℕ)) → Good-limits l → l .rules-can ≡ kinds → told-bytes (image (empty l)) bss ≡ map answer-bytes (answers l [] (map call-of bss))
+Right-bytes = (l : Limits) (bss : List (List ℕ)) → Good-limits l → l .rules-can ≡ kinds → told-bytes (opened-words l) bss ≡ map answer-bytes (answers l [] (map call-of bss))
 
 -- bytes that are turned away change nothing
 abbrev pub Refusal-keeps-bytes : Type 0
 Refusal-keeps-bytes =
     (l : Limits) (bss : List (List ℕ)) (bs : List ℕ) → Good-limits l → l .rules-can ≡ kinds → 0 < turned l (ran l [] (map call-of bss)) (call-of bs) →
-    next-bytes (left-bytes (image (empty l)) bss) bs ≡ left-bytes (image (empty l)) bss
+    next-bytes (left-bytes (opened-words l) bss) bs ≡ left-bytes (opened-words l) bss
 
 -- the memory stays within what is asked for, and each word within 64 bits
 abbrev pub Enough-memory-bytes : Type 0
 Enough-memory-bytes =
     (l : Limits) (bss : List (List ℕ)) → Good-limits l →
-    (length (left-bytes (image (empty l)) bss) ≤ 64 * l .rules + 256) × (all-below 18446744073709551616 (left-bytes (image (empty l)) bss) ≡ true)
+    (length (left-bytes (opened-words l) bss) ≤ 64 * l .rules + 256) × (all-below 18446744073709551616 (left-bytes (opened-words l) bss) ≡ true)

@@ -5,7 +5,7 @@ use mathlib.Core.Bool.{Bool, true, false}
 use mathlib.Core.List.{List, [], _∷_, _++_}
 use Prim.Native.Nat.{ℕ, _<_}
 use lib.Dec.{ltb, eqb}
-use lib.ListN.{length, drop}
+use lib.ListN.{length, drop, replicate}
 use Rattle.std.specs.declared.option.Option.{Option}
 use Rattle.std.specs.declared.option.Option.the-variants.{Some, None}
 use Rattle.std.specs.declared.result.Result.{Result}
@@ -80,8 +80,12 @@ next-words ws c = next-in ws c (book-of ws)
 
 -- ---- the desk of the main promise, of nothing but these
 
+-- opened in as many words as are asked for
+abbrev pub opened-words : Limits → List ℕ
+opened-words l = open-words (replicate (asked (l .rules)) 0) l
+
 abbrev pub desk : Desk
-desk = record { opened = λ l. record { words = image (empty l) }; next = λ m c. record { words = next-words (m .words) c }; says = λ m c. says-words (m .words) c }
+desk = record { opened = λ l. record { words = opened-words l }; next = λ m c. record { words = next-words (m .words) c }; says = λ m c. says-words (m .words) c }
 
 -- ---- whole sessions on any lent words
 

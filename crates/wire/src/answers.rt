@@ -4,7 +4,7 @@ ghost use Prim.Native.Nat.{_+_, _≤_};
 ghost use lib.ListN.{length};
 ghost use Rattle.wire.specs.Fields.{number-at};
 ghost use Rattle.wire.specs.Meaning.{refusal-number, refusal-place, refusal-if, says, says-if};
-ghost use Rattle.wire.specs.AnswerBytes.{refusal-from, answer-numbers, answer-bytes, answer-of};
+ghost use Rattle.wire.specs.AnswerBytes.{refusal-from, answer-numbers, answer-bytes, answer-of, Answers-read-back};
 
 // Why a call or an opening was turned away.
 #[derive(Clone, Copy)]
@@ -54,6 +54,7 @@ impl Refusal {
                 0,
         }
     }
+
     // The refusal of this number and place, if there is one.
     fn of(number: u64, place: u64) -> Option<Refusal>
         ensures { λ r. ⌜ refusal-if r ≡ refusal-from number place ⌝ }
@@ -94,8 +95,7 @@ impl Answer {
         bytes
     }
 
-    // The answer that the bytes are, if they are one, all of them.
-    pub fn from_bytes(bytes: &[u8]) -> Option<Answer>
+    fn parse(bytes: &[u8]) -> Option<Answer>
         ensures { λ r. ⌜ says-if r ≡ answer-of (now (bytes .entry)) ⌝ }
     {
         if bytes.len() != 24 {
@@ -114,6 +114,13 @@ impl Answer {
             2 => Some(Answer::Two(b, c)),
             _ => None,
         }
+    }
+    // The answer that the bytes are, if they are one, all of them. What was written is read back.
+    pub fn from_bytes(bytes: &[u8]) -> Option<Answer>
+        ensures answer { λ r. ⌜ says-if r ≡ answer-of (now (bytes .entry)) ⌝ }
+        ensures back { λ _. ⌜ Answers-read-back ⌝ }
+    {
+        Answer::parse(bytes)
     }
 }
 

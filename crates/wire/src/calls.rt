@@ -3,11 +3,12 @@ ghost use mathlib.Core.Path.{_≡_};
 ghost use Prim.Native.Nat.{_+_, _<_, _≤_};
 ghost use lib.Dec.{ltb};
 ghost use lib.ListN.{length, drop};
+ghost use Rattle.std.specs.Options.{Cases as BySome};
 ghost use Rattle.std.specs.declared.option.Option.the-variants.{Some, None};
 ghost use Rattle.raise.specs.Rules.{pick};
 ghost use Rattle.wire.specs.Fields.{number-at, four-bytes};
 ghost use Rattle.wire.specs.Meaning.{meant, meant-or, field-or, asks-or};
-ghost use Rattle.wire.specs.CallBytes.{rule-from, rule-of, laid, one-field, call-of};
+ghost use Rattle.wire.specs.CallBytes.{rule-from, rule-of, laid, one-field, call-of, Calls-read-back, Calls-differ, Only-calls-read, Place-right};
 
 // A rule; rates are in ten-thousandths of a unit, sums in units.
 #[derive(Clone, Copy)]
@@ -62,6 +63,17 @@ fn ends_early(bytes: &[u8]) -> Garbled
     Garbled { place }
 }
 
+// The bytes, if they are at most so many.
+fn at_most(bytes: &[u8], size: usize) -> Option<&[u8]>
+    ensures { λ r. ⌜ BySome r (size < length (now (bytes .entry))) (λ same. (length (now (bytes .entry)) ≤ size) × (now same ≡ now (bytes .entry))) ⌝ }
+{
+    if bytes.len() > size {
+        None
+    } else {
+        Some(bytes)
+    }
+}
+
 // The rule of a kind from 0 to 4, by its three fields.
 fn rule_of_kind(kind: u8, from: u32, second: u32, last: u32) -> Rule
     ensures { λ r. ⌜ meant r ≡ rule-from kind from second last ⌝ }
@@ -111,9 +123,9 @@ fn read_rule(part: &[u8]) -> Result<Rule, Garbled>
     let Some(last) = field(part, 9) else {
         return Err(ends_early(part));
     };
-    if part.len() > 13 {
+    let Some(_) = at_most(part, 13) else {
         return Err(Garbled { place: 13 });
-    }
+    };
     Ok(rule_of_kind(*kind, from, second, last))
 }
 
@@ -124,9 +136,9 @@ fn read_field(bytes: &[u8]) -> Result<u32, Garbled>
     let Some(value) = field(bytes, 1) else {
         return Err(ends_early(bytes));
     };
-    if bytes.len() > 5 {
+    let Some(_) = at_most(bytes, 5) else {
         return Err(Garbled { place: 5 });
-    }
+    };
     Ok(value)
 }
 
@@ -144,8 +156,7 @@ fn read_lay(bytes: &[u8]) -> Result<Call, Garbled>
     }
 }
 
-// The call that the bytes are, all of them, or the place of the first that doesn't fit.
-pub fn read_call(bytes: &[u8]) -> Result<Call, Garbled>
+fn parse(bytes: &[u8]) -> Result<Call, Garbled>
     ensures { λ r. ⌜ asks-or r ≡ call-of (now (bytes .entry)) ⌝ }
 {
     let [kind @ 0..=4, ..] = bytes else {
@@ -162,4 +173,17 @@ pub fn read_call(bytes: &[u8]) -> Result<Call, Garbled>
         _ => Call::Safe(value),
     };
     Ok(call)
+}
+
+// The call that the bytes are, all of them, or the place of the first that doesn't fit.
+// A call that was written is read back, two calls have different bytes, only a call's own bytes are read as it, and the
+// place is right.
+pub fn read_call(bytes: &[u8]) -> Result<Call, Garbled>
+    ensures call { λ r. ⌜ asks-or r ≡ call-of (now (bytes .entry)) ⌝ }
+    ensures back { λ _. ⌜ Calls-read-back ⌝ }
+    ensures differ { λ _. ⌜ Calls-differ ⌝ }
+    ensures only { λ _. ⌜ Only-calls-read ⌝ }
+    ensures place { λ _. ⌜ Place-right ⌝ }
+{
+    parse(bytes)
 }

@@ -4,7 +4,7 @@ ghost use Prim.Native.Nat.{_<_, _≤_};
 ghost use lib.ListN.{length};
 ghost use Rattle.std.specs.Options.{Cases as BySome};
 ghost use Rattle.wire.specs.Fields.{number-at};
-ghost use Rattle.wire.specs.Files.{first-call, after-call};
+ghost use Rattle.wire.specs.Files.{first-call, after-call, Cut-by-cut, Files-read-back};
 use crate::calls::field;
 
 // The limit of rules and the bound that a file begins with.
@@ -27,8 +27,7 @@ pub fn read_head(file: &[u8]) -> Option<Head>
     Some(Head { rules, bound })
 }
 
-// The first call of what follows the head, and what follows that call; none where nothing is left.
-pub fn next_call(rest: &[u8]) -> Option<(&[u8], &[u8])>
+fn cut_off(rest: &[u8]) -> Option<(&[u8], &[u8])>
     ensures { λ r. ⌜ BySome r (length (now (rest .entry)) ≡ 0) (λ p. (0 < length (now (rest .entry))) × (now (p .0) ≡ first-call (now (rest .entry))) × (now (p .1) ≡ after-call (now (rest .entry)))) ⌝ }
 {
     if rest.is_empty() {
@@ -40,4 +39,14 @@ pub fn next_call(rest: &[u8]) -> Option<(&[u8], &[u8])>
     let body = &rest[4..];
     let end = body.len().min(length as usize);
     Some((&body[0..end], &body[end..]))
+}
+
+// The first call of what follows the head, and what follows that call; none where nothing is left.
+// Any file is cut call by call, and one that was written is cut into the calls that were written.
+pub fn next_call(rest: &[u8]) -> Option<(&[u8], &[u8])>
+    ensures first { λ r. ⌜ BySome r (length (now (rest .entry)) ≡ 0) (λ p. (0 < length (now (rest .entry))) × (now (p .0) ≡ first-call (now (rest .entry))) × (now (p .1) ≡ after-call (now (rest .entry)))) ⌝ }
+    ensures cut { λ _. ⌜ Cut-by-cut ⌝ }
+    ensures back { λ _. ⌜ Files-read-back ⌝ }
+{
+    cut_off(rest)
 }

@@ -3,7 +3,6 @@
 mod answers;
 mod calls;
 mod files;
-mod laws;
 
 pub use answers::Answer;
 pub use answers::Refusal;
@@ -14,7 +13,3 @@ pub use calls::read_call;
 pub use files::Head;
 pub use files::next_call;
 pub use files::read_head;
-pub use laws::answers_read_back;
-pub use laws::calls_read_back;
-pub use laws::files_read_back;
-pub use laws::places_are_right;

@@ -7,5 +7,5 @@ pub returns-in-Err : need.returns-in-Err
 returns-in-Err c =
     let ws = c .args .words .now in
     let n = c .in-Err .garbled .place in
-    let e = c .in-Err .ensures tt in
+    let e = c .in-Err .ensures tt .call in
     record { said = rw (← e) (sym (garbled-says n (book-of ws))); words = rw (← e) (sym (garbled-keeps ws n (book-of ws))) }

@@ -7,18 +7,18 @@ use Rattle.session.proofs.Nothing.{answer-lay, answer-lift, accepts-lay, accep
 use Rattle.session.proofs.reply.Needs as need
 
 pub tell-left-requires : need.tell-left-requires
-tell-left-requires c κs = held-good (c .args .words .now) (stands-for (c .in-Some .book)) (sym (c .in-Some .ensures tt)) .1
+tell-left-requires c κs = held-good (c .args .words .now) (stands-for (c .in-Some .book)) (sym (c .in-Some .ensures tt .book)) .1
 
 pub tell-row-requires : need.tell-row-requires
-tell-row-requires c κs = held-good (c .args .words .now) (stands-for (c .in-Some .book)) (sym (c .in-Some .ensures tt)) .1
+tell-row-requires c κs = held-good (c .args .words .now) (stands-for (c .in-Some .book)) (sym (c .in-Some .ensures tt .book)) .1
 
 pub tell-safe-requires : need.tell-safe-requires
-tell-safe-requires c κs = held-good (c .args .words .now) (stands-for (c .in-Some .book)) (sym (c .in-Some .ensures tt)) .1
+tell-safe-requires c κs = held-good (c .args .words .now) (stands-for (c .in-Some .book)) (sym (c .in-Some .ensures tt .book)) .1
 
 pub returns-in-Lay : need.returns-in-Lay
 returns-in-Lay c =
     let b = c .in-Some .book in
-    let e = c .in-Some .ensures tt in
+    let e = c .in-Some .ensures tt .book in
     let i = c .in-Lay .is in
     let a = answer-lay (b .limit) (b .bound) in
     let t = accepts-lay (b .limit) (b .bound) in
@@ -27,7 +27,7 @@ returns-in-Lay c =
 pub returns-in-Lift : need.returns-in-Lift
 returns-in-Lift c =
     let b = c .in-Some .book in
-    let e = c .in-Some .ensures tt in
+    let e = c .in-Some .ensures tt .book in
     let i = c .in-Lift .is in
     let a = answer-lift (b .limit) (b .bound) in
     let t = accepts-lift (b .limit) (b .bound) in

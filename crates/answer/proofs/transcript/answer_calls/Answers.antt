@@ -19,19 +19,19 @@ use Rattle.answer.proofs.transcript.answer_calls.Needs as need
 
 pub loop-bytes-less : need.loop-bytes-less
 loop-bytes-less c =
-    let e = c .in-Some .ensures tt in
+    let e = c .in-Some .ensures tt .first in
     rw (e .2) (after-shorter (c .loop-bytes .rest .now) (e .0))
 
 pub loop-bytes-again : need.loop-bytes-again
 loop-bytes-again c =
     let ws = c .loop-bytes .words in
     let rest = c .loop-bytes .rest .now in
-    let e = c .in-Some .ensures tt in
+    let e = c .in-Some .ensures tt .first in
     let k = call-of (first-call rest) in
     let b : call-of (c .in-Some .bytes .now) ≡ k = ap call-of (e .1) in
     let a : says (c .call-answer .result) ≡ says-words ws k = c .call-answer .ensures .said ∙ ap (says-words ws) b in
     let w : c .call-answer .last .words ≡ next-words ws k = c .call-answer .ensures .words ∙ ap (next-words ws) b in
-    let q : asks-or (c .read-call-asked .result) ≡ k = c .read-call-asked .ensures ∙ b in
+    let q : asks-or (c .read-call-asked .result) ≡ k = c .read-call-asked .ensures .call ∙ b in
     let out = string-bytes (c .loop-bytes .out) in
     let l = line k (says-words ws k) ++ codes "\n" in
     let o : string-bytes (c .write-line .last .out) ≡ out ++ l =
@@ -45,5 +45,5 @@ pub returns : need.returns
 returns c =
     let ws = c .loop-bytes .words in
     let out = string-bytes (c .loop-bytes .out) in
-    let z : lines-on ws (c .loop-bytes .rest .now) ≡ [] = ap (lines-on ws) (nil-from-length (c .loop-bytes .rest .now) (c .in-rest .ensures tt)) ∙ lines-none ws in
+    let z : lines-on ws (c .loop-bytes .rest .now) ≡ [] = ap (lines-on ws) (nil-from-length (c .loop-bytes .rest .now) (c .in-rest .ensures tt .first)) ∙ lines-none ws in
     sym (append-nil out) ∙ ap (λ (x : List ℕ). out ++ x) (sym z) ∙ c .loop-bytes .inv

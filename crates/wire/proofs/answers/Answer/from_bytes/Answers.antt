@@ -1,0 +1,5 @@
+use Rattle.wire.proofs.AnswerLaws.{answers-read-back}
+use Rattle.wire.proofs.answers.Answer.from_bytes.Needs as need
+
+pub returns : need.returns
+returns c = record { answer = c .parse .ensures; back = answers-read-back }

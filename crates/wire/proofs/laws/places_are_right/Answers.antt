@@ -1,5 +1,0 @@
-use Rattle.wire.proofs.CallLaws.{place-right}
-use Rattle.wire.proofs.laws.places_are_right.Needs as need
-
-pub returns : need.returns
-returns c = place-right
