@@ -1,5 +1,5 @@
 -- Answers are read back from their bytes.
-use mathlib.Core.Path.{_≡_, _∙_}
+use mathlib.Core.Path.{_≡_, refl, _∙_}
 use mathlib.Core.Bool.{true}
 use mathlib.Core.List.{[], _++_}
 use Prim.Native.Nat.{ℕ, _<_}
@@ -9,8 +9,10 @@ use Rattle.std.proofs.shelf.Lists.{append-nil}
 use Rattle.std.proofs.shelf.Tests.{and-parts, ltb-true}
 use Rattle.std.proofs.shelf.Ways.{tells}
 use Rattle.raise.specs.Calls.{refused, number, two}
+use Rattle.wire.specs.declared.answers.Refusal.{Refusal}
+use Rattle.wire.specs.declared.answers.Refusal.the-variants.{Unreadable, OutOfRange, TooManyRules, BoundTooHigh, MemoryTooSmall, NoSuchRule, BookFull}
 use Rattle.wire.specs.Fields.{bytes-of}
-use Rattle.wire.specs.AnswerBytes.{is-refusal, answer-from, answer-of, Answers-read-back}
+use Rattle.wire.specs.AnswerBytes.{is-refusal, answer-from, answer-of, Answers-read-back, Refusals-read}
 use Rattle.wire.proofs.Numbers.{row-long, row-first, row-second, row-third}
 
 -- three numbers of eight bytes
@@ -36,3 +38,12 @@ answers-read-back (number n) h = words-back 1 n 0 (omega arith) (ltb-true n 1844
 answers-read-back (two m n) h =
     let p = and-parts (ltb m 18446744073709551616) (ltb n 18446744073709551616) h in
     words-back 2 m n (omega arith) (ltb-true m 18446744073709551616 (p .0)) (ltb-true n 18446744073709551616 (p .1))
+
+pub refusals-read : Refusals-read
+refusals-read (Unreadable n) = refl
+refusals-read OutOfRange = refl
+refusals-read TooManyRules = refl
+refusals-read BoundTooHigh = refl
+refusals-read MemoryTooSmall = refl
+refusals-read NoSuchRule = refl
+refusals-read BookFull = refl

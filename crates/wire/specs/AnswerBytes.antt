@@ -12,7 +12,9 @@ use Rattle.std.specs.declared.option.Option.the-variants.{Some, None}
 use Rattle.std.specs.Joined.{joined}
 use Rattle.raise.specs.Rules.{pick}
 use Rattle.raise.specs.Calls.{Answer, refused, number, two}
+use Rattle.wire.specs.declared.answers.Refusal.{Refusal}
 use Rattle.wire.specs.Fields.{bytes-of, number-at}
+use Rattle.wire.specs.Meaning.{refusal-number, refusal-place}
 
 abbrev pub answer-numbers : Answer → List ℕ
 answer-numbers (refused k n) = 0 ∷ (k ∷ (n ∷ []))
@@ -48,3 +50,7 @@ sayable (two m n) = ltb m 18446744073709551616 && ltb n 18446744073709551616
 -- reading what was written gives it back
 abbrev pub Answers-read-back : Type 0
 Answers-read-back = (a : Answer) → sayable a ≡ true → answer-of (answer-bytes a) ≡ Some a
+
+-- every refusal that the code has is one that is read
+abbrev pub Refusals-read : Type 0
+Refusals-read = (e : Refusal) → is-refusal (refusal-number e) (refusal-place e) ≡ true

@@ -4,7 +4,7 @@ ghost use Prim.Native.Nat.{_+_, _≤_};
 ghost use lib.ListN.{length};
 ghost use Rattle.wire.specs.Fields.{number-at};
 ghost use Rattle.wire.specs.Meaning.{refusal-number, refusal-place, refusal-if, says, says-if};
-ghost use Rattle.wire.specs.AnswerBytes.{refusal-from, answer-numbers, answer-bytes, answer-of, Answers-read-back};
+ghost use Rattle.wire.specs.AnswerBytes.{refusal-from, answer-numbers, answer-bytes, answer-of, Answers-read-back, Refusals-read};
 
 // Why a call or an opening was turned away.
 #[derive(Clone, Copy)]
@@ -119,6 +119,7 @@ impl Answer {
     pub fn from_bytes(bytes: &[u8]) -> Option<Answer>
         ensures answer { λ r. ⌜ says-if r ≡ answer-of (now (bytes .entry)) ⌝ }
         ensures back { λ _. ⌜ Answers-read-back ⌝ }
+        ensures known { λ _. ⌜ Refusals-read ⌝ }
     {
         Answer::parse(bytes)
     }
