@@ -1,12 +1,11 @@
 -- The lines of a file, call by call.
-use mathlib.Core.Path.{_≡_, refl, sym, ap, _∙_}
-use mathlib.Core.List.{List, [], _∷_, _++_, map}
+use mathlib.Core.Path.{_≡_, refl, ap}
+use mathlib.Core.List.{List, [], _++_, map}
 use Prim.Native.Nat.{ℕ, _<_}
 use lib.Chars.{codes}
 use lib.ListN.{length}
-use Rattle.raise.specs.Calls.{Call}
 use Rattle.wire.specs.CallBytes.{call-of}
-use Rattle.wire.specs.Files.{first-call, after-call, cut, calls-in}
+use Rattle.wire.specs.Files.{first-call, after-call, cut}
 use Rattle.wire.proofs.FileLaws.{cut-step}
 use Rattle.session.specs.Memory.{says-words, next-words, told-words}
 use Rattle.text.specs.Shown.{line}

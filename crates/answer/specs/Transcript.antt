@@ -1,5 +1,4 @@
 -- What the program prints for a file of calls: a line for each call. Nothing is assumed.
-use mathlib.Core.Bool.{Bool, true, false}
 use mathlib.Core.List.{List, [], _∷_, _++_, map}
 use Prim.Native.Nat.{ℕ}
 use lib.Chars.{codes}

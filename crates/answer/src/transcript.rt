@@ -6,6 +6,8 @@ ghost use lib.ListN.{length};
 ghost use Rattle.std.specs.Of.String.{string-bytes};
 ghost use Rattle.std.specs.Options.{Cases as BySome};
 ghost use Rattle.std.specs.Vec.{made};
+ghost use Rattle.std.specs.declared.option.Option.the-variants.{None};
+ghost use Rattle.std.specs.declared.result.Result.the-variants.{Ok};
 ghost use Rattle.session.specs.Memory.{limited};
 ghost use Rattle.answer.specs.Transcript.{lines-on, told-in, transcript as transcript-of};
 use book::words_asked;
@@ -39,7 +41,7 @@ fn answer_calls(words: &mut [u64], calls: &[u8], out: &mut String) -> Result<(),
     Ok(())
 }
 
-// A refusal at opening is the only line.
+// A refusal at opening is the only line. An opening is no call, so what was asked is shown as bytes that are none.
 fn answer_all(
     words: &mut [u64],
     head: Head,
@@ -61,7 +63,8 @@ fn answer_all(
 // All lines that answer a file, or none where it ends inside its head. Memory is lent for 16 rules, so that a larger
 // limit is refused at opening.
 pub fn answer_file(heap: Global, file: &[u8]) -> Result<Option<String>, AllocError>
-    ensures { λ r. ⌜ made r (λ o. BySome o (length (now (file .entry)) < 8) (λ text. (8 ≤ length (now (file .entry))) × (string-bytes text ≡ transcript-of (now (file .entry))))) ⌝ }
+    ensures short { λ r. ⌜ (length (now (file .entry)) < 8 → r ≡ Ok None) ⌝ }
+    ensures text { λ r. ⌜ made r (λ o. BySome o (length (now (file .entry)) < 8) (λ text. (8 ≤ length (now (file .entry))) × (string-bytes text ≡ transcript-of (now (file .entry))))) ⌝ }
 {
     let Some(head) = read_head(file) else {
         return Ok(None);

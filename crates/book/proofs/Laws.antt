@@ -1,21 +1,19 @@
 -- What was written as an image reads back as that book, and what is read is a good book.
-use mathlib.Core.Path.{_≡_, refl, sym, ap, subst, _∙_}
-use mathlib.Core.Logic.{_⊎_, inl, inr}
-use mathlib.Core.Bool.{Bool, true, false, _&&_}
-use mathlib.Core.List.{List, [], _∷_, _++_}
-use Prim.Native.Nat.{ℕ, _+_, _*_, _-_, _<_, _≤_}
+use mathlib.Core.Path.{_≡_, sym, ap, subst, _∙_}
+use mathlib.Core.Logic.{inl, inr}
+use mathlib.Core.Bool.{Bool, true}
+use mathlib.Core.List.{List, [], _++_}
+use Prim.Native.Nat.{ℕ, _-_, _≤_}
 use native.Mathlib.Omega.{arith}
-use lib.Dec.{ltb, leb, eqb}
-use lib.ListN.{length, getD, drop, replicate}
-use Rattle.std.specs.declared.option.Option.{Option}
+use lib.ListN.{length, getD, replicate}
 use Rattle.std.specs.declared.option.Option.the-variants.{Some, None}
-use Rattle.std.proofs.shelf.Lists.{append-nil, length-append, length-replicate}
+use Rattle.std.proofs.shelf.Lists.{length-append, length-replicate}
 use Rattle.std.proofs.shelf.Tests.{cases-bool}
 use Rattle.std.proofs.shelf.Ways.{tells}
 use Rattle.raise.specs.Rules.{pick}
 use Rattle.raise.specs.Promise.{all-below}
 use Rattle.raise.proofs.Below.{below-both, below-zeros}
-use Rattle.book.specs.Held.{Book, Good, asked, tag, head-words, image, head-fine, book-of, Reads-back, Holds-good, Images-differ}
+use Rattle.book.specs.Held.{Book, Good, asked, head-words, image, head-fine, book-of, Reads-back, Holds-good, Images-differ}
 
 pub image-long : (b : Book) → length (image b) ≡ asked (b .limit)
 unfolding image

@@ -2,9 +2,9 @@
 --
 -- The front of the words: a tag that says that an opened book of this format is here, the limit of rules, the bound, and how
 -- many rules there are. The rest of the words that a book asks for is room for rules and for tables that a question writes; it is
--- zero after each call that was accepted, so equal books are equal words.
+-- zero after each call that was accepted, so that equal books then have equal words.
 use mathlib.Core.Path.{_≡_}
-use mathlib.Core.Bool.{Bool, true, false, _&&_}
+use mathlib.Core.Bool.{Bool, _&&_}
 use mathlib.Core.List.{List, [], _∷_, _++_}
 use Prim.Native.Nat.{ℕ, _+_, _*_, _-_, _≤_}
 use lib.Dec.{leb, eqb}
@@ -21,7 +21,7 @@ pub record Book : Type 0 where
 abbrev pub rules-in : Book → List Rule
 rules-in b = []
 
--- how many words a book of n rules asks for
+-- how many words a book with a limit of n rules asks for
 abbrev pub asked : ℕ → ℕ
 asked n = 32 * n + 64
 

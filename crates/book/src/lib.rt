@@ -10,14 +10,15 @@ ghost use Rattle.book.specs.Value.{stands-for, stands-if};
 // Says that an opened book of this format is here: "book" in ASCII.
 const TAG: u64 = 0x626f_6f6b;
 
-// How many rules it may hold, at most 64, and up to what earning it is asked, at most 1,000,000,000.
+// How many rules it may hold, and up to what earning it is asked. One that was opened or read is within limits: at most
+// 64 rules, and a bound of at most 1,000,000,000.
 #[derive(Clone, Copy)]
 pub struct Book {
     pub limit: u32,
     pub bound: u32,
 }
 
-// How many words a book of so many rules asks for: at most 64 a rule and 256 more.
+// How many words a book with a limit of so many rules asks for: at most 64 a rule and 256 more.
 pub fn words_asked(rules: u32) -> usize
     ensures value { λ r. ⌜ r ≡ asked rules ⌝ }
     ensures bound { λ r. ⌜ r ≤ 64 * rules + 256 ⌝ }
@@ -51,6 +52,7 @@ pub fn read_book(words: &[u64]) -> Option<Book>
     read_front(words)
 }
 
+// The front of the words alone.
 fn write_front(words: &mut [u64], book: Book)
     requires { ⌜ 4 ≤ length (now words) ⌝ }
     ensures { λ _. ⌜ now (words .exit) ≡ head-words (book .limit) (book .bound) 0 ++ drop 4 (now (words .entry)) ⌝ }

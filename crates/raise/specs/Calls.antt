@@ -2,13 +2,12 @@
 --
 -- A book is a list of rules, numbered from 0 in the order in which they were laid. A call either is turned away, by a
 -- number that says why and a place, and then it has changed nothing; or it is answered by a number or by two.
-use mathlib.Core.Path.{_≡_}
-use mathlib.Core.Bool.{Bool, true, false, not, _&&_, _||_}
+use mathlib.Core.Bool.{Bool, _&&_}
 use mathlib.Core.List.{List, [], _∷_, _++_}
-use Prim.Native.Nat.{ℕ, zero, suc, _+_, _*_, _-_, _/_, _%_, _≤_, _<_}
+use Prim.Native.Nat.{ℕ, zero, suc, _-_}
 use lib.Dec.{ltb, leb, eqb}
-use lib.ListN.{length, getD, take, drop}
-use Rattle.raise.specs.Rules.{pick, Rule, takes, gives, takes-sum, gives-sum, fades, all-plus, all-minus, loses, first-losing, first-not, safe-from}
+use lib.ListN.{length, take, drop}
+use Rattle.raise.specs.Rules.{pick, Rule, takes, gives, takes-sum, gives-sum, fades, all-plus, all-minus, first-losing, first-not, safe-from}
 
 pub data Call : Type 0 where
   lays : Rule → Call  -- a rule comes into the book, as its last
@@ -49,7 +48,8 @@ fine (fades a r s) = leb a 1000000000 && (leb r 20000 && leb s 100000000)
 
 -- why a call is turned away, or 0 if it is not
 -- 1: it can't be read; 2: a rule out of range or of a kind that can't be done, or an earning above the bound;
--- 4: a rule that is not there; 5: more rules than the limit. (3 comes at opening only, for limits or memory.)
+-- 4: a rule that is not there; 5: more rules than the limit. (3 is for limits and memory that can't serve: the written book,
+-- which needs no memory, has no such call.)
 unfoldable pub turned : Limits → List Rule → Call → ℕ
 turned l rs (lays r) = pick ((l .rules-can) (rule-number r) && fine r) (pick (ltb (length rs) (l .rules)) 0 5) 2
 turned l rs (lifts i) = pick (ltb i (length rs)) 0 4
@@ -84,7 +84,8 @@ after l rs c = pick (eqb (turned l rs c) 0) (changed rs c) rs
 
 -- ---- answers
 
--- a row of earnings that lose, by one more than its first: one more than its first, and one more than its last; 0 and 0 if there is none
+-- the row of earnings that lose whose first is g, given as suc g: one more than its first, and one more than its last; 0 and 0 where
+-- 0 is given, that is, where there is no row
 unfoldable pub row-from : Limits → List Rule → ℕ → Answer
 row-from l rs zero = two 0 0
 row-from l rs (suc g) = two (suc g) (pick (eqb (first-not rs (l .bound) g) 0) (suc (l .bound)) (first-not rs (l .bound) g - 1))

@@ -1,13 +1,13 @@
 -- What is promised. Each promise is a statement, a type; the functions whose contracts name it owe its proof. Nothing is assumed.
 use mathlib.Core.Path.{_≡_}
-use mathlib.Core.Logic.{_⊎_, _≢_}
-use mathlib.Core.Bool.{Bool, true, false, not, _&&_, _||_}
+use mathlib.Core.Logic.{_⊎_}
+use mathlib.Core.Bool.{Bool, true, false, _&&_, _||_}
 use mathlib.Core.List.{List, [], _∷_, _++_}
-use Prim.Native.Nat.{ℕ, zero, suc, _+_, _*_, _-_, _/_, _%_, _≤_, _<_}
-use lib.Dec.{ltb, leb, eqb}
-use lib.ListN.{length, getD, take, drop}
-use Rattle.raise.specs.Rules.{pick, Rule, takes, gives, takes-sum, gives-sum, fades, plus, minus, all-plus, all-minus, less-left, loses, safe-from}
-use Rattle.raise.specs.Calls.{Call, Answer, Limits, fine, turned, after, answer, answers}
+use Prim.Native.Nat.{ℕ, zero, suc, _+_, _*_, _/_, _≤_, _<_}
+use lib.Dec.{ltb, leb}
+use lib.ListN.{length}
+use Rattle.raise.specs.Rules.{pick, Rule, takes, gives, takes-sum, gives-sum, fades, all-plus, all-minus, less-left, loses, safe-from}
+use Rattle.raise.specs.Calls.{Call, Answer, Limits, turned, after, answers}
 
 abbrev pub Good-limits : Limits → Type 0
 Good-limits l = (l .rules ≤ 64) × (l .bound ≤ 1000000000)

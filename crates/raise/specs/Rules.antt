@@ -3,12 +3,10 @@
 -- What is earned (gross) is a whole number of units, from 0 to a bound. Every amount is in ten-thousandths of a unit.
 -- What comes in is the gross itself and all that rules give; what goes out is all that rules take; what is left (net) is
 -- the first less the second, and may be below nothing. So that natural numbers suffice, the two are kept apart here.
-use mathlib.Core.Path.{_≡_}
 use mathlib.Core.Bool.{Bool, true, false, not, _&&_, _||_}
-use mathlib.Core.List.{List, [], _∷_, _++_}
-use Prim.Native.Nat.{ℕ, zero, suc, _+_, _*_, _-_, _/_, _%_, _≤_, _<_}
-use lib.Dec.{ltb, leb, eqb}
-use lib.ListN.{length, getD}
+use mathlib.Core.List.{List, [], _∷_}
+use Prim.Native.Nat.{ℕ, zero, suc, _+_, _*_, _-_}
+use lib.Dec.{ltb, leb}
 
 abbrev pub pick : {A : Type 0} → Bool → A → A → A
 pick true a b = a

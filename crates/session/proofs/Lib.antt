@@ -1,2 +1,3 @@
 pub mod Nothing
 pub mod Runs
+pub mod OnBytes

@@ -1,16 +1,15 @@
 -- A book without rules: what is earned is what is left, nobody loses, and the next unit is always safe.
-use mathlib.Core.Path.{_≡_, refl, sym, ap, _∙_}
-use mathlib.Core.Bool.{Bool, true, false, not, _&&_, _||_}
-use mathlib.Core.Logic.{_⊎_, inl, inr}
-use mathlib.Core.List.{List, [], _∷_}
+use mathlib.Core.Path.{_≡_, refl, ap, _∙_}
+use mathlib.Core.Bool.{Bool, true, false, not, _&&_}
+use mathlib.Core.Logic.{inl, inr}
+use mathlib.Core.List.{[]}
 use Prim.Native.Nat.{ℕ, zero, suc, _+_, _*_, _-_, _<_, _≤_}
 use native.Mathlib.Omega.{arith}
 use lib.Dec.{ltb, leb, eqb}
-use lib.ListN.{length}
-use Rattle.std.proofs.shelf.Tests.{le-ltb, lt-ltb, le-leb, or-from, and-from, and-left, not-from-false, cases-lt, cases-bool}
+use Rattle.std.proofs.shelf.Tests.{le-ltb, lt-ltb, or-from, and-from, and-left, not-from-false, cases-bool}
 use Rattle.std.proofs.shelf.Ways.{tells}
-use Rattle.raise.specs.Rules.{pick, Rule, all-plus, all-minus, less-left, some-less, loses, first-that, first-losing, all-as-much, safe-from}
-use Rattle.raise.specs.Calls.{Call, Answer, Limits, lays, lifts, left-of, next-row, safe, garbled, refused, number, two, turned, place, told, row-from, answer}
+use Rattle.raise.specs.Rules.{pick, Rule, all-plus, all-minus, less-left, some-less, loses, first-that, all-as-much, safe-from}
+use Rattle.raise.specs.Calls.{lays, lifts, left-of, next-row, safe, refused, number, two, turned, place, told, row-from, answer}
 use Rattle.session.specs.Memory.{limited}
 
 not-less : (g h : ℕ) → g ≤ h → less-left [] g h ≡ false

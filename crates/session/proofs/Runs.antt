@@ -1,32 +1,29 @@
--- Whole sessions: what the contracts of open, call and serve say of one step, over every list of calls.
+-- Whole sessions: what the contracts of open and call say of one step, over every list of calls.
 use mathlib.Core.Path.{_≡_, refl, sym, ap, subst, _∙_}
 use mathlib.Core.Bool.{Bool, true, false}
-use mathlib.Core.Logic.{_⊎_, inl, inr}
-use mathlib.Core.List.{List, [], _∷_, _++_, map}
-use Prim.Native.Nat.{ℕ, zero, suc, _+_, _*_, _≤_, _<_}
+use mathlib.Core.Logic.{inl, inr}
+use mathlib.Core.List.{List, [], _∷_, _++_}
+use Prim.Native.Nat.{ℕ, zero, suc, _+_, _*_, _≤_}
 use native.Mathlib.Omega.{arith}
-use lib.Dec.{ltb, leb, eqb}
+use lib.Dec.{ltb, eqb}
 use lib.ListN.{length, drop, replicate}
 use Rattle.std.specs.declared.option.Option.{Option}
 use Rattle.std.specs.declared.option.Option.the-variants.{Some, None}
 use Rattle.std.proofs.shelf.Lists.{append-nil, drop-at, drop-all, length-replicate}
 use Rattle.std.proofs.shelf.Tests.{cases-bool, le-ltb, ltb-false}
 use Rattle.std.proofs.shelf.Ways.{tells}
-use Rattle.raise.specs.Rules.{pick, Rule}
-use Rattle.raise.specs.Calls.{Call, Answer, Limits, lays, lifts, left-of, next-row, safe, garbled, refused, turned, place, changed, after, told, row-from, answer, answers}
-use Rattle.raise.specs.Promise.{Memory, Desk, Good-limits, told-by, left-by, ran, all-below, Right, Refusal-keeps, Enough-memory}
-use Rattle.wire.specs.CallBytes.{call-of}
-use Rattle.wire.specs.AnswerBytes.{answer-bytes}
-use Rattle.book.specs.Held.{Book, Good, asked, image, book-of, rules-in}
+use Rattle.raise.specs.Rules.{Rule}
+use Rattle.raise.specs.Calls.{Call, Answer, Limits, lays, lifts, left-of, next-row, safe, garbled, refused, number, turned, place, changed, after, told, row-from, answer, answers}
+use Rattle.raise.specs.Promise.{Memory, Good-limits, told-by, left-by, all-below, Right, Refusal-keeps, Enough-memory}
+use Rattle.book.specs.Held.{Book, Good, asked, image}
 use Rattle.book.proofs.Laws.{image-reads, image-long, image-below}
-use Rattle.session.specs.Memory.{kinds, limited, opening, empty, open-words, opened-words, limits, says-in, next-in, says-words, next-words, desk, told-words, left-words, is-three, Serves, Opened}
-use Rattle.session.specs.Bytes.{told-bytes, left-bytes, Right-bytes, Refusal-keeps-bytes, Enough-memory-bytes}
-use Rattle.session.proofs.Nothing.{accepts-lay, accepts-lift}
+use Rattle.session.specs.Memory.{kinds, limited, opening, empty, open-words, opened-words, limits, says-in, next-in, says-words, next-words, desk, told-words, left-words, is-three, unless-refused, Serves, Opened, Suffices, Bare}
+use Rattle.session.proofs.Nothing.{answer-lay, answer-lift, answer-left, answer-row, answer-safe, accepts-lay, accepts-lift}
 
 -- ---- one call, on the image of a book with anything behind it
 
 -- no call changes the rules of a book that can hold none
-no-rules : (b : Book) (c : Call) → after (limits b) [] c ≡ []
+pub no-rules : (b : Book) (c : Call) → after (limits b) [] c ≡ []
 unfolding changed
 no-rules b (lays r) = rw (accepts-lay (b .limit) (b .bound) r) refl
 no-rules b (lifts i) = rw (accepts-lift (b .limit) (b .bound) i) refl
@@ -35,7 +32,7 @@ no-rules b (next-row g) = elim (cases-bool (eqb (turned (limits b) [] (next-row 
 no-rules b (safe g) = elim (cases-bool (eqb (turned (limits b) [] (safe g)) 0)) [ inl t ↦ rw t refl | inr t ↦ rw t refl ]
 no-rules b (garbled n) = elim (cases-bool (eqb (turned (limits b) [] (garbled n)) 0)) [ inl t ↦ rw t refl | inr t ↦ rw t refl ]
 
-next-behind : (b : Book) (ys : List ℕ) (c : Call) → Good b → next-words (image b ++ ys) c ≡ image b ++ ys
+pub next-behind : (b : Book) (ys : List ℕ) (c : Call) → Good b → next-words (image b ++ ys) c ≡ image b ++ ys
 next-behind b ys c g =
     let d : drop (asked (b .limit)) (image b ++ ys) ≡ ys = drop-at (image b) ys (asked (b .limit)) (image-long b) in
     ap (next-in (image b ++ ys) c) (image-reads b ys g) ∙
@@ -46,12 +43,12 @@ says-behind b ys c g = ap (says-in c) (image-reads b ys g)
 
 -- ---- and lists of calls
 
-left-behind : (b : Book) (ys : List ℕ) (cs : List Call) → Good b → left-words (image b ++ ys) cs ≡ image b ++ ys
+pub left-behind : (b : Book) (ys : List ℕ) (cs : List Call) → Good b → left-words (image b ++ ys) cs ≡ image b ++ ys
 unfolding left-words
 left-behind b ys [] g = refl
 left-behind b ys (c ∷ cs) g = ap (λ (ws : List ℕ). left-words ws cs) (next-behind b ys c g) ∙ left-behind b ys cs g
 
-told-behind : (b : Book) (ys : List ℕ) (cs : List Call) → Good b → told-words (image b ++ ys) cs ≡ answers (limits b) [] cs
+pub told-behind : (b : Book) (ys : List ℕ) (cs : List Call) → Good b → told-words (image b ++ ys) cs ≡ answers (limits b) [] cs
 unfolding told-words answers
 told-behind b ys [] g = refl
 told-behind b ys (c ∷ cs) g =
@@ -90,7 +87,7 @@ answer-not-three l rs c = elim (cases-bool (eqb (turned l rs c) 0)) [ inl t ↦ 
 
 -- ---- an opening on any words
 
-good-empty : (l : Limits) → Good-limits l → Good (empty l)
+pub good-empty : (l : Limits) → Good-limits l → Good (empty l)
 good-empty l h = record { few = h .0; low = h .1 }
 
 serves : (ws : List ℕ) (rules bound : ℕ) → rules ≤ 64 → bound ≤ 1000000000 → Serves (limited rules bound) ws (image (empty (limited rules bound)) ++ drop (asked rules) ws)
@@ -118,6 +115,26 @@ opened ws rules bound =
         ]
       ]
     ]
+
+-- limits and words that an opening accepts
+pub accepted : (ws : List ℕ) (l : Limits) → opening ws l ≡ number 0 → Good-limits l × (open-words ws l ≡ image (empty l) ++ drop (asked (l .rules)) ws)
+accepted ws l e =
+    let few : l .rules ≤ 64 = grind (arith, tells) in
+    let low : l .bound ≤ 1000000000 = grind (arith, tells) in
+    ((few, low), ap (λ (a : Answer). unless-refused a (image (empty l) ++ drop (asked (l .rules)) ws) ws) e)
+
+pub suffices : (ws : List ℕ) (l : Limits) → Suffices l ws (opening ws l)
+suffices ws l few low long =
+    let a = le-ltb 64 (l .rules) few in
+    let b = le-ltb 1000000000 (l .bound) low in
+    let c = le-ltb (length ws) (asked (l .rules)) (omega arith) in
+    rw (a, b, c) refl
+
+pub bare : Bare
+bare b =
+    let n = b .limit in
+    let m = b .bound in
+    record { lay = answer-lay n m; lift = answer-lift n m; left = answer-left n m; row = answer-row n m; safe-next = answer-safe n m }
 
 -- ---- the desk
 
@@ -153,7 +170,7 @@ next-image : (b : Book) (c : Call) → Good b → next-words (image b) c ≡ ima
 next-image b c g = ap (λ (ws : List ℕ). next-words ws c) (sym (append-nil (image b))) ∙ next-behind b [] c g ∙ append-nil (image b)
 
 -- the limits of an opened book are those that it was opened with
-same-limits : (l : Limits) → l .rules-can ≡ kinds → limits (empty l) ≡ l
+pub same-limits : (l : Limits) → l .rules-can ≡ kinds → limits (empty l) ≡ l
 same-limits l e = ap (λ (k : ℕ → Bool). record { rules-can = k; rules = l .rules; bound = l .bound }) (sym e)
 
 pub right : Right kinds desk
@@ -179,35 +196,6 @@ pub enough-memory : Enough-memory desk
 enough-memory l cs h r =
     let P : Memory → Type 0 = λ m. (length (m .words) ≤ 64 * l .rules + 256) × (all-below 18446744073709551616 (m .words) ≡ true) in
     subst P (sym (left-by-desk l cs h)) (within l h)
-
--- ---- the same on bytes
-
-told-as-bytes : (ws : List ℕ) (bss : List (List ℕ)) → told-bytes ws bss ≡ map answer-bytes (told-words ws (map call-of bss))
-unfolding told-bytes told-words
-told-as-bytes ws [] = refl
-told-as-bytes ws (bs ∷ bss) = ap (λ (xs : List (List ℕ)). answer-bytes (says-words ws (call-of bs)) ∷ xs) (told-as-bytes (next-words ws (call-of bs)) bss)
-
-left-as-bytes : (ws : List ℕ) (bss : List (List ℕ)) → left-bytes ws bss ≡ left-words ws (map call-of bss)
-unfolding left-bytes left-words
-left-as-bytes ws [] = refl
-left-as-bytes ws (bs ∷ bss) = left-as-bytes (next-words ws (call-of bs)) bss
-
-stays : (l : Limits) (bss : List (List ℕ)) → Good-limits l → left-bytes (opened-words l) bss ≡ image (empty l)
-stays l bss h = left-as-bytes (opened-words l) bss ∙ left-opened l (map call-of bss) h
-
-pub right-bytes : Right-bytes
-right-bytes l bss h e =
-    told-as-bytes (opened-words l) bss ∙
-    ap (map answer-bytes) (ap (λ (ws : List ℕ). told-words ws (map call-of bss)) (opened-image l h) ∙ told-image (empty l) (map call-of bss) (good-empty l h) ∙ ap (λ (m : Limits). answers m [] (map call-of bss)) (same-limits l e))
-
-pub refusal-keeps-bytes : Refusal-keeps-bytes
-refusal-keeps-bytes l bss bs h e t =
-    ap (λ (ws : List ℕ). next-words ws (call-of bs)) (stays l bss h) ∙ next-image (empty l) (call-of bs) (good-empty l h) ∙ sym (stays l bss h)
-
-pub enough-memory-bytes : Enough-memory-bytes
-enough-memory-bytes l bss h =
-    let P : List ℕ → Type 0 = λ ws. (length ws ≤ 64 * l .rules + 256) × (all-below 18446744073709551616 ws ≡ true) in
-    subst P (sym (stays l bss h)) (within l h)
 
 -- ---- bytes that are no call
 

@@ -1,10 +1,10 @@
 -- What open and call make of lent words, whatever the words are; the desk made of these; and what is promised of whole sessions.
 -- Nothing is assumed.
 use mathlib.Core.Path.{_≡_}
-use mathlib.Core.Bool.{Bool, true, false}
+use mathlib.Core.Bool.{Bool, false}
 use mathlib.Core.List.{List, [], _∷_, _++_}
-use Prim.Native.Nat.{ℕ, _<_}
-use lib.Dec.{ltb, eqb}
+use Prim.Native.Nat.{ℕ, _+_, _*_, _<_, _≤_}
+use lib.Dec.{ltb, leb, eqb}
 use lib.ListN.{length, drop, replicate}
 use Rattle.std.specs.declared.option.Option.{Option}
 use Rattle.std.specs.declared.option.Option.the-variants.{Some, None}
@@ -12,7 +12,7 @@ use Rattle.std.specs.declared.result.Result.{Result}
 use Rattle.std.specs.declared.result.Result.the-variants.{Ok, Err}
 use Rattle.raise.specs.Rules.{pick, Rule}
 use Rattle.raise.specs.Calls.{Call, Answer, Limits, lays, lifts, left-of, next-row, safe, garbled, refused, number, two, turned, answer, answers}
-use Rattle.raise.specs.Promise.{Memory, Desk, ran}
+use Rattle.raise.specs.Promise.{Desk, ran}
 use Rattle.wire.specs.declared.answers.Refusal.{Refusal}
 use Rattle.wire.specs.Meaning.{refusal-number, refusal-place}
 use Rattle.book.specs.Held.{Book, asked, image, book-of, rules-in}
@@ -105,14 +105,35 @@ is-three (two m n) = false
 
 -- what an accepted opening makes of any words: from then on, for every list of calls, the answers are those of the written book;
 -- 3 never comes; a call that is turned away changes no word; and the words behind those asked for stay as they were before
-pub record Serves (l : Limits) (before now : List ℕ) : Type 0 where
-  pub right : (cs : List Call) → told-words now cs ≡ answers l [] cs
-  pub no-three : (cs : List Call) (c : Call) → is-three (says-words (left-words now cs) c) ≡ false
-  pub keeps : (cs : List Call) (c : Call) → 0 < turned l (ran l [] cs) c → next-words (left-words now cs) c ≡ left-words now cs
-  pub behind : (cs : List Call) → drop (asked (l .rules)) (left-words now cs) ≡ drop (asked (l .rules)) before
+pub record Serves (l : Limits) (before opened : List ℕ) : Type 0 where
+  pub right : (cs : List Call) → told-words opened cs ≡ answers l [] cs
+  pub no-three : (cs : List Call) (c : Call) → is-three (says-words (left-words opened cs) c) ≡ false
+  pub keeps : (cs : List Call) (c : Call) → 0 < turned l (ran l [] cs) c → next-words (left-words opened cs) c ≡ left-words opened cs
+  pub behind : (cs : List Call) → drop (asked (l .rules)) (left-words opened cs) ≡ drop (asked (l .rules)) before
 
--- the same of an opening that was accepted; one that was not has changed nothing
+-- an opening, by its answer: one that was accepted serves, one that was refused has changed nothing
 abbrev pub Opened : Limits → Answer → List ℕ → List ℕ → Type 0
-Opened l (refused k n) before now = now ≡ before
-Opened l (number n) before now = Serves l before now
-Opened l (two m n) before now = Serves l before now
+Opened l (refused k n) before opened = opened ≡ before
+Opened l (number n) before opened = Serves l before opened
+Opened l (two m n) before opened = Serves l before opened
+
+-- 64 words a rule and 256 more are always enough to open a book within limits
+abbrev pub Suffices : Limits → List ℕ → Answer → Type 0
+Suffices l ws a = l .rules ≤ 64 → l .bound ≤ 1000000000 → 64 * l .rules + 256 ≤ length ws → a ≡ number 0
+
+-- ---- this stage in plain words
+
+abbrev pub in-bound : Book → ℕ → Answer → Answer
+in-bound b g a = pick (leb g (b .bound)) a (refused 2 0)
+
+-- a book that can hold no rules: none is laid and there is none to lift; all that is earned is left; nobody loses; the next unit is safe,
+-- unless it lies above the bound
+pub record Bare-book (b : Book) : Type 0 where
+  pub lay : (r : Rule) → says-in (lays r) (Some b) ≡ refused 2 0
+  pub lift : (i : ℕ) → says-in (lifts i) (Some b) ≡ refused 4 0
+  pub left : (g : ℕ) → says-in (left-of g) (Some b) ≡ in-bound b g (two (10000 * g) 0)
+  pub row : (g : ℕ) → says-in (next-row g) (Some b) ≡ in-bound b g (two 0 0)
+  pub safe-next : (g : ℕ) → says-in (safe g) (Some b) ≡ in-bound b g (number (pick (ltb g (b .bound)) (g + 2) 0))
+
+abbrev pub Bare : Type 0
+Bare = (b : Book) → Bare-book b

@@ -8,14 +8,14 @@ ghost use lib.Dec.{leb};
 ghost use lib.ListN.{length, drop};
 ghost use Rattle.std.specs.declared.option.Option.the-variants.{Some, None};
 ghost use Rattle.raise.specs.Rules.{pick};
-ghost use Rattle.raise.specs.Calls.{lays, lifts, left-of, next-row, safe};
+ghost use Rattle.raise.specs.Calls.{left-of, next-row, safe};
 ghost use Rattle.raise.specs.Promise.{Right, Refusal-keeps, Enough-memory};
-ghost use Rattle.wire.specs.Meaning.{asks, says as answer-of};
+ghost use Rattle.wire.specs.Meaning.{asks, says};
 ghost use Rattle.wire.specs.CallBytes.{call-of};
 ghost use Rattle.book.specs.Held.{asked};
 ghost use Rattle.book.specs.Value.{stands-for};
-ghost use Rattle.session.specs.Memory.{kinds, limited, said-open, opening, open-words, Opened, says-in, next-in, says-words, next-words, desk};
-ghost use Rattle.session.specs.Bytes.{says-bytes, next-bytes, if-room, Right-bytes, Refusal-keeps-bytes, Enough-memory-bytes};
+ghost use Rattle.session.specs.Memory.{kinds, limited, said-open, opening, open-words, Opened, Suffices, Bare, says-in, next-in, says-words, next-words, desk};
+ghost use Rattle.session.specs.Bytes.{says-bytes, next-bytes, if-room, Right-bytes, Read-back-bytes, Refusal-keeps-bytes, Enough-memory-bytes};
 use book::Book;
 use book::read_book;
 use book::words_asked;
@@ -33,7 +33,7 @@ fn at_most(value: u32, most: u32) -> Option<u32>
     if value <= most { Some(value) } else { None }
 }
 
-// How many words a book of so many rules asks for, if there are so many.
+// How many words a limit of so many rules asks for, if there are so many.
 fn room_for(words: &[u64], rules: u32) -> Option<usize>
     ensures { λ r. ⌜ r ≡ pick (leb (asked rules) (length (now (words .entry)))) (Some (asked rules)) None ⌝ }
 {
@@ -66,7 +66,7 @@ fn open_book(words: &mut [u64], rules: u32, bound: u32) -> Result<(), Refusal>
 // What comes in and what goes out.
 fn tell_left(words: &mut [u64], book: Book, gross: u32) -> Answer
     requires { ⌜ asked (book .limit) ≤ length (now words) ⌝ }
-    ensures said { λ r. ⌜ answer-of r ≡ says-in (left-of gross) (Some (stands-for book)) ⌝ }
+    ensures said { λ r. ⌜ says r ≡ says-in (left-of gross) (Some (stands-for book)) ⌝ }
     ensures words { λ _. ⌜ now (words .exit) ≡ next-in (now (words .entry)) (left-of gross) (Some (stands-for book)) ⌝ }
 {
     let Some(gross) = at_most(gross, book.bound) else {
@@ -79,7 +79,7 @@ fn tell_left(words: &mut [u64], book: Book, gross: u32) -> Answer
 // Without rules nobody loses.
 fn tell_row(words: &mut [u64], book: Book, gross: u32) -> Answer
     requires { ⌜ asked (book .limit) ≤ length (now words) ⌝ }
-    ensures said { λ r. ⌜ answer-of r ≡ says-in (next-row gross) (Some (stands-for book)) ⌝ }
+    ensures said { λ r. ⌜ says r ≡ says-in (next-row gross) (Some (stands-for book)) ⌝ }
     ensures words { λ _. ⌜ now (words .exit) ≡ next-in (now (words .entry)) (next-row gross) (Some (stands-for book)) ⌝ }
 {
     let Some(_) = at_most(gross, book.bound) else {
@@ -92,7 +92,7 @@ fn tell_row(words: &mut [u64], book: Book, gross: u32) -> Answer
 // Without rules the next unit is safe, if the bound allows for one.
 fn tell_safe(words: &mut [u64], book: Book, gross: u32) -> Answer
     requires { ⌜ asked (book .limit) ≤ length (now words) ⌝ }
-    ensures said { λ r. ⌜ answer-of r ≡ says-in (safe gross) (Some (stands-for book)) ⌝ }
+    ensures said { λ r. ⌜ says r ≡ says-in (safe gross) (Some (stands-for book)) ⌝ }
     ensures words { λ _. ⌜ now (words .exit) ≡ next-in (now (words .entry)) (safe gross) (Some (stands-for book)) ⌝ }
 {
     let Some(gross) = at_most(gross, book.bound) else {
@@ -106,9 +106,9 @@ fn tell_safe(words: &mut [u64], book: Book, gross: u32) -> Answer
     }
 }
 
-// No kind of rule can be done at this stage, so there is none to lift.
+// The answer to a call, if the words hold a book. No kind of rule can be done at this stage, so there is none to lift.
 fn reply(words: &mut [u64], call: Call) -> Answer
-    ensures said { λ r. ⌜ answer-of r ≡ says-words (now (words .entry)) (asks call) ⌝ }
+    ensures said { λ r. ⌜ says r ≡ says-words (now (words .entry)) (asks call) ⌝ }
     ensures words { λ _. ⌜ now (words .exit) ≡ next-words (now (words .entry)) (asks call) ⌝ }
 {
     let Some(book) = read_book(words) else {
@@ -123,17 +123,19 @@ fn reply(words: &mut [u64], call: Call) -> Answer
     }
 }
 
-// Opens a book in the lent words, for so many rules and earnings up to so much.
+// Opens a book in the lent words, for so many rules and earnings up to so much. An accepted opening serves for good.
 pub fn open(words: &mut [u64], rules: u32, bound: u32) -> Result<(), Refusal>
     ensures said { λ r. ⌜ said-open r ≡ opening (now (words .entry)) (limited rules bound) ⌝ }
     ensures words { λ _. ⌜ now (words .exit) ≡ open-words (now (words .entry)) (limited rules bound) ⌝ }
     ensures opened { λ r. ⌜ Opened (limited rules bound) (said-open r) (now (words .entry)) (now (words .exit)) ⌝ }
+    ensures suffices { λ r. ⌜ Suffices (limited rules bound) (now (words .entry)) (said-open r) ⌝ }
 {
     open_book(words, rules, bound)
 }
 
+// Bytes that can't be read are refused before the words are looked at.
 fn read_and_reply(words: &mut [u64], bytes: &[u8]) -> Answer
-    ensures said { λ r. ⌜ answer-of r ≡ says-words (now (words .entry)) (call-of (now (bytes .entry))) ⌝ }
+    ensures said { λ r. ⌜ says r ≡ says-words (now (words .entry)) (call-of (now (bytes .entry))) ⌝ }
     ensures words { λ _. ⌜ now (words .exit) ≡ next-words (now (words .entry)) (call-of (now (bytes .entry))) ⌝ }
 {
     match read_call(bytes) {
@@ -144,17 +146,20 @@ fn read_and_reply(words: &mut [u64], bytes: &[u8]) -> Answer
     }
 }
 
-// Answers the call that the bytes are. The promise holds for whole lists of calls.
+// Answers the call that the bytes are. For every list of calls the answers are those of the written book, a call that
+// is turned away changes nothing, and memory stays within what is asked for.
 pub fn call(words: &mut [u64], bytes: &[u8]) -> Answer
-    ensures said { λ r. ⌜ answer-of r ≡ says-words (now (words .entry)) (call-of (now (bytes .entry))) ⌝ }
+    ensures said { λ r. ⌜ says r ≡ says-words (now (words .entry)) (call-of (now (bytes .entry))) ⌝ }
     ensures words { λ _. ⌜ now (words .exit) ≡ next-words (now (words .entry)) (call-of (now (bytes .entry))) ⌝ }
     ensures right { λ _. ⌜ Right kinds desk ⌝ }
     ensures keeps { λ _. ⌜ Refusal-keeps kinds desk ⌝ }
     ensures enough { λ _. ⌜ Enough-memory desk ⌝ }
+    ensures bare { λ _. ⌜ Bare ⌝ }
 {
     read_and_reply(words, bytes)
 }
 
+// Nothing is asked of the book where there is no room for the answer.
 fn serve_call(words: &mut [u64], bytes: &[u8], out: &mut [u8]) -> usize
     ensures count { λ r. ⌜ r ≡ if-room (now (out .entry)) 24 0 ⌝ }
     ensures out { λ _. ⌜ now (out .exit) ≡ if-room (now (out .entry)) (says-bytes (now (words .entry)) (now (bytes .entry)) ++ drop 24 (now (out .entry))) (now (out .entry)) ⌝ }
@@ -175,6 +180,7 @@ pub fn serve(words: &mut [u64], bytes: &[u8], out: &mut [u8]) -> usize
     ensures out { λ _. ⌜ now (out .exit) ≡ if-room (now (out .entry)) (says-bytes (now (words .entry)) (now (bytes .entry)) ++ drop 24 (now (out .entry))) (now (out .entry)) ⌝ }
     ensures words { λ _. ⌜ now (words .exit) ≡ if-room (now (out .entry)) (next-bytes (now (words .entry)) (now (bytes .entry))) (now (words .entry)) ⌝ }
     ensures right { λ _. ⌜ Right-bytes ⌝ }
+    ensures back { λ _. ⌜ Read-back-bytes ⌝ }
     ensures keeps { λ _. ⌜ Refusal-keeps-bytes ⌝ }
     ensures enough { λ _. ⌜ Enough-memory-bytes ⌝ }
 {

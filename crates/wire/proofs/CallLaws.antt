@@ -16,7 +16,7 @@ use Rattle.raise.specs.Calls.{Call, lays, lifts, left-of, next-row, safe, garbl
 use Rattle.raise.specs.Promise.{field, readable, readable-rule, all-below}
 use Rattle.raise.proofs.Below.{below-take, below-both, below-zeros}
 use Rattle.wire.specs.Fields.{bytes-of, number-of, number-at}
-use Rattle.wire.specs.CallBytes.{three, rule-fields, rule-bytes, call-bytes, sized, rule-from, rule-of, laid, one-field, asked, call-of, is-garbled, Writable, Calls-read-back, Calls-differ, Only-calls-read, Begins, Place-right}
+use Rattle.wire.specs.CallBytes.{three, rule-fields, rule-bytes, call-bytes, sized, rule-from, rule-of, laid, one-field, with-field, call-of, is-garbled, Writable, Calls-read-back, Calls-differ, Only-calls-read, Begins, Place-right}
 use Rattle.wire.proofs.Numbers.{bytes-long, number-back, bytes-back, number-below, row-long, row-first, row-second, row-third, row-back, number-fits}
 
 -- ---- bytes by their number
@@ -37,10 +37,10 @@ size-cases P k bs x f same short over =
 abbrev by-kind : ℕ → List ℕ → Call
 by-kind b xs =
     pick (eqb b 0) (laid (rule-of xs))
-    (pick (eqb b 1) (asked lifts (one-field (b ∷ xs)))
-    (pick (eqb b 2) (asked left-of (one-field (b ∷ xs)))
-    (pick (eqb b 3) (asked next-row (one-field (b ∷ xs)))
-    (pick (eqb b 4) (asked safe (one-field (b ∷ xs))) (garbled 0)))))
+    (pick (eqb b 1) (with-field lifts (one-field (b ∷ xs)))
+    (pick (eqb b 2) (with-field left-of (one-field (b ∷ xs)))
+    (pick (eqb b 3) (with-field next-row (one-field (b ∷ xs)))
+    (pick (eqb b 4) (with-field safe (one-field (b ∷ xs))) (garbled 0)))))
 
 at-kind : (b : ℕ) (xs : List ℕ) → call-of (b ∷ xs) ≡ by-kind b xs
 at-kind b xs = let n : eqb (suc (length xs)) 0 ≡ false = ne-eqb (suc (length xs)) 0 (λ e. omega arith) in rw n
@@ -103,7 +103,7 @@ rule-back k a b c l h =
 abbrev numbered : ℕ → ℕ → Call
 numbered b n = pick (eqb b 1) (lifts n) (pick (eqb b 2) (left-of n) (pick (eqb b 3) (next-row n) (safe n)))
 
-at-number : (b : ℕ) (xs : List ℕ) → 0 < b → b ≤ 4 → call-of (b ∷ xs) ≡ asked (numbered b) (one-field (b ∷ xs))
+at-number : (b : ℕ) (xs : List ℕ) → 0 < b → b ≤ 4 → call-of (b ∷ xs) ≡ with-field (numbered b) (one-field (b ∷ xs))
 at-number zero xs l m = absurd (omega arith)
 at-number (suc zero) xs l m = at-kind 1 xs
 at-number (suc (suc zero)) xs l m = at-kind 2 xs
@@ -124,7 +124,7 @@ number-parts (suc (suc (suc (suc (suc b))))) n l m = absurd (omega arith)
 number-call : (b n : ℕ) → 0 < b → b ≤ 4 → field n ≡ true → call-of (b ∷ bytes-of 4 n) ≡ numbered b n
 number-call b n l m h =
     at-number b (bytes-of 4 n) l m ∙
-    ap (asked (numbered b)) (size-same 5 (b ∷ bytes-of 4 n) (Ok (number-of (take 4 (bytes-of 4 n)))) (λ i. Err i) (omega (arith, bytes-long 4 n))) ∙
+    ap (with-field (numbered b)) (size-same 5 (b ∷ bytes-of 4 n) (Ok (number-of (take 4 (bytes-of 4 n)))) (λ i. Err i) (omega (arith, bytes-long 4 n))) ∙
     ap (λ (t : List ℕ). numbered b (number-of t)) (take-all 4 (bytes-of 4 n) (omega (arith, bytes-long 4 n))) ∙ ap (numbered b) (number-back 4 n (ltb-true n 4294967296 h))
 
 -- ---- reading what was written
@@ -172,9 +172,9 @@ module _ (P : List ℕ → Call → Type 0) (p : Cases P) where
             (λ e. p .rule-same k xs l (omega arith)) (λ e. rw s (p .rule-short k xs l (omega arith))) (λ e. p .rule-over k xs l (omega arith)))
       ]
 
-  number-cases : (b : ℕ) (xs : List ℕ) → 0 < b → b ≤ 4 → P (b ∷ xs) (asked (numbered b) (one-field (b ∷ xs)))
+  number-cases : (b : ℕ) (xs : List ℕ) → 0 < b → b ≤ 4 → P (b ∷ xs) (with-field (numbered b) (one-field (b ∷ xs)))
   number-cases b xs l m =
-      size-cases (λ (r : Result ℕ ℕ). P (b ∷ xs) (asked (numbered b) r)) 5 (b ∷ xs) (Ok (number-of (take 4 xs))) (λ n. Err n)
+      size-cases (λ (r : Result ℕ ℕ). P (b ∷ xs) (with-field (numbered b) r)) 5 (b ∷ xs) (Ok (number-of (take 4 xs))) (λ n. Err n)
       (λ e. let t = take-all 4 xs (omega arith) in rw t (p .number-same b xs l m (omega arith))) (λ e. p .number-short b xs l m (omega arith)) (λ e. p .number-over b xs l m (omega arith))
 
   call-cases : (bs : List ℕ) → P bs (call-of bs)

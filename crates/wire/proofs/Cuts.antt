@@ -1,11 +1,11 @@
 -- What is cut off a list at a number that may lie past its end.
-use mathlib.Core.Path.{_≡_, refl, sym, ap, _∙_}
-use mathlib.Core.Logic.{_⊎_, inl, inr}
-use mathlib.Core.List.{List, [], _∷_}
-use Prim.Native.Nat.{ℕ, min, _+_, _-_, _<_, _≤_}
+use mathlib.Core.Path.{_≡_, sym, ap, _∙_}
+use mathlib.Core.Logic.{inl, inr}
+use mathlib.Core.List.{List}
+use Prim.Native.Nat.{ℕ, min, _<_}
 use native.Mathlib.Omega.{arith}
 use lib.ListN.{length, take, drop}
-use Rattle.std.proofs.shelf.Lists.{take-all, drop-all, length-drop, drop-drop}
+use Rattle.std.proofs.shelf.Lists.{take-all, drop-all, length-drop}
 use Rattle.std.proofs.shelf.Tests.{cases-lt}
 use Rattle.wire.specs.Files.{after-call}
 use Rattle.wire.specs.Fields.{number-at}

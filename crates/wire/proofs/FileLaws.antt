@@ -1,12 +1,13 @@
 -- A file is cut call by call, and a written file into what was written.
 use mathlib.Core.Path.{_≡_, refl, sym, ap, _∙_}
 use mathlib.Core.List.{List, [], _∷_, _++_}
+use Rattle.std.specs.shelf.Lists.{All}
 use Prim.Native.Nat.{ℕ, zero, suc, _≤_, _<_}
 use native.Mathlib.Omega.{arith}
-use lib.ListN.{length, drop}
-use Rattle.std.proofs.shelf.Lists.{take-at, drop-at, length-append}
+use lib.ListN.{length, take, drop}
+use Rattle.std.proofs.shelf.Lists.{take-at, drop-at, drop-drop, length-append}
 use Rattle.wire.specs.Fields.{bytes-of, number-of, number-at}
-use Rattle.wire.specs.Files.{first-call, after-call, cut, calls-in, file-of, Cut-by-cut, Files-read-back}
+use Rattle.wire.specs.Files.{first-call, after-call, cut, calls-in, records, file-of, Cut-by-cut, Files-read-back}
 use Rattle.wire.proofs.Numbers.{bytes-long, number-back}
 use Rattle.wire.proofs.Cuts.{after-shorter}
 
@@ -35,14 +36,23 @@ pub cut-step : (bs : List ℕ) → 0 < length bs → calls-in bs ≡ first-call 
 cut-step [] l = absurd (omega arith)
 cut-step (b ∷ bs) l = cut-by-cut b bs
 
-pub files-read-back : Files-read-back
-unfolding cut file-of
-files-read-back [] h = refl
-files-read-back (c ∷ cs) h =
+records-back : (cs : List (List ℕ)) → All (λ c. length c < 4294967296) cs → calls-in (records cs) ≡ cs
+unfolding cut records
+records-back [] h = refl
+records-back (c ∷ cs) h =
     let w = bytes-long 4 (length c) in
-    let t : number-at 4 (file-of (c ∷ cs)) 0 ≡ length c = ap number-of (take-at (bytes-of 4 (length c)) (c ++ file-of cs) 4 w) ∙ number-back 4 (length c) (h .0) in
-    let d : drop 4 (file-of (c ∷ cs)) ≡ c ++ file-of cs = drop-at (bytes-of 4 (length c)) (c ++ file-of cs) 4 w in
-    let f : first-call (file-of (c ∷ cs)) ≡ c = rw (t, d) (take-at c (file-of cs) (length c) refl) in
-    let a : after-call (file-of (c ∷ cs)) ≡ file-of cs = rw (t, d) (drop-at c (file-of cs) (length c) refl) in
-    let i = files-read-back cs (h .1) in
-    cut-step (file-of (c ∷ cs)) (omega (arith, length-append (bytes-of 4 (length c)) (c ++ file-of cs), w)) ∙ rw (f, a, i)
+    let t : number-at 4 (records (c ∷ cs)) 0 ≡ length c = ap number-of (take-at (bytes-of 4 (length c)) (c ++ records cs) 4 w) ∙ number-back 4 (length c) (h .0) in
+    let d : drop 4 (records (c ∷ cs)) ≡ c ++ records cs = drop-at (bytes-of 4 (length c)) (c ++ records cs) 4 w in
+    let f : first-call (records (c ∷ cs)) ≡ c = rw (t, d) (take-at c (records cs) (length c) refl) in
+    let a : after-call (records (c ∷ cs)) ≡ records cs = rw (t, d) (drop-at c (records cs) (length c) refl) in
+    let i = records-back cs (h .1) in
+    cut-step (records (c ∷ cs)) (omega (arith, length-append (bytes-of 4 (length c)) (c ++ records cs), w)) ∙ rw (f, a, i)
+
+pub files-read-back : Files-read-back
+files-read-back n b cs l m h =
+    let v = bytes-long 4 n in
+    let w = bytes-long 4 b in
+    let rest = bytes-of 4 b ++ records cs in
+    let d : drop 4 (file-of n b cs) ≡ rest = drop-at (bytes-of 4 n) rest 4 v in
+    let e : drop 8 (file-of n b cs) ≡ records cs = sym (drop-drop 4 4 (file-of n b cs)) ∙ ap (drop 4) d ∙ drop-at (bytes-of 4 b) (records cs) 4 w in
+    (ap number-of (take-at (bytes-of 4 n) rest 4 v) ∙ number-back 4 n l, ap (λ (x : List ℕ). number-of (take 4 x)) d ∙ ap number-of (take-at (bytes-of 4 b) (records cs) 4 w) ∙ number-back 4 b m, ap calls-in e ∙ records-back cs h)

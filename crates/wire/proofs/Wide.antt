@@ -1,9 +1,9 @@
 -- Numbers of four and of eight bytes, as the library's `from_le_bytes` and `to_le_bytes` write them out.
 use mathlib.Core.Path.{_≡_, refl, sym, ap, _∙_}
 use mathlib.Core.List.{List, [], _∷_}
-use Prim.Native.Nat.{ℕ, zero, suc, _+_, _*_, _/_, _%_, _<_, _≤_}
+use Prim.Native.Nat.{ℕ, suc, _+_, _*_, _/_, _%_, _<_, _≤_}
 use native.Mathlib.Omega.{arith}
-use lib.ListN.{length, getD, take, drop}
+use lib.ListN.{length, getD, take}
 use Rattle.std.proofs.shelf.Lists.{drop-more}
 use Rattle.wire.specs.Fields.{bytes-of, number-of, number-at, four-bytes}
 

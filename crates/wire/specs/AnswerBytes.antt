@@ -2,7 +2,7 @@
 --
 -- 0, why and the place; or 1, a number and 0; or 2 and two numbers.
 use mathlib.Core.Path.{_≡_}
-use mathlib.Core.Bool.{Bool, true, false, _&&_, _||_}
+use mathlib.Core.Bool.{Bool, true, _&&_, _||_}
 use mathlib.Core.List.{List, [], _∷_}
 use Prim.Native.Nat.{ℕ}
 use lib.Dec.{ltb, leb, eqb}
@@ -12,6 +12,7 @@ use Rattle.std.specs.declared.option.Option.the-variants.{Some, None}
 use Rattle.std.specs.Joined.{joined}
 use Rattle.raise.specs.Rules.{pick}
 use Rattle.raise.specs.Calls.{Answer, refused, number, two}
+use Rattle.raise.specs.Promise.{all-below}
 use Rattle.wire.specs.declared.answers.Refusal.{Refusal}
 use Rattle.wire.specs.Fields.{bytes-of, number-at}
 use Rattle.wire.specs.Meaning.{refusal-number, refusal-place}
@@ -50,6 +51,10 @@ sayable (two m n) = ltb m 18446744073709551616 && ltb n 18446744073709551616
 -- reading what was written gives it back
 abbrev pub Answers-read-back : Type 0
 Answers-read-back = (a : Answer) → sayable a ≡ true → answer-of (answer-bytes a) ≡ Some a
+
+-- what is read as an answer is that answer's bytes, and nothing else; its numbers fit
+abbrev pub Only-answers-read : Type 0
+Only-answers-read = (bs : List ℕ) (a : Answer) → all-below 256 bs ≡ true → answer-of bs ≡ Some a → (sayable a ≡ true) × (answer-bytes a ≡ bs)
 
 -- every refusal that the code has is one that is read
 abbrev pub Refusals-read : Type 0

@@ -6,7 +6,7 @@ use mathlib.Core.Path.{_≡_}
 use mathlib.Core.Bool.{Bool, true, false}
 use mathlib.Core.Logic.{_⊎_}
 use mathlib.Core.List.{List, [], _∷_, _++_}
-use Prim.Native.Nat.{ℕ, zero, suc, _+_, _≤_, _<_}
+use Prim.Native.Nat.{ℕ, suc, _+_, _<_}
 use lib.Dec.{ltb, eqb}
 use lib.ListN.{length, getD, take, drop}
 use Rattle.std.specs.declared.result.Result.{Result}
@@ -75,19 +75,19 @@ laid (Err n) = garbled (n + 1)
 abbrev pub one-field : List ℕ → Result ℕ ℕ
 one-field bs = sized 5 bs (Ok (number-at 4 bs 1)) (λ n. Err n)
 
-abbrev pub asked : (ℕ → Call) → Result ℕ ℕ → Call
-asked call (Ok n) = call n
-asked call (Err n) = garbled n
+abbrev pub with-field : (ℕ → Call) → Result ℕ ℕ → Call
+with-field call (Ok n) = call n
+with-field call (Err n) = garbled n
 
 -- the call, or `garbled` with the place of the first byte that doesn't fit
 abbrev pub call-of : List ℕ → Call
 call-of bs =
     pick (eqb (length bs) 0) (garbled 0)
     (pick (eqb (getD bs 0 0) 0) (laid (rule-of (drop 1 bs)))
-    (pick (eqb (getD bs 0 0) 1) (asked lifts (one-field bs))
-    (pick (eqb (getD bs 0 0) 2) (asked left-of (one-field bs))
-    (pick (eqb (getD bs 0 0) 3) (asked next-row (one-field bs))
-    (pick (eqb (getD bs 0 0) 4) (asked safe (one-field bs)) (garbled 0))))))
+    (pick (eqb (getD bs 0 0) 1) (with-field lifts (one-field bs))
+    (pick (eqb (getD bs 0 0) 2) (with-field left-of (one-field bs))
+    (pick (eqb (getD bs 0 0) 3) (with-field next-row (one-field bs))
+    (pick (eqb (getD bs 0 0) 4) (with-field safe (one-field bs)) (garbled 0))))))
 
 -- ---- what is promised of these
 

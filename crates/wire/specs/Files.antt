@@ -3,7 +3,7 @@
 -- call, and one that ends inside a length gives an empty call. Nothing is assumed.
 use mathlib.Core.Path.{_≡_}
 use mathlib.Core.List.{List, [], _∷_, _++_}
-use Prim.Native.Nat.{ℕ, zero, suc, _+_, _<_}
+use Prim.Native.Nat.{ℕ, zero, suc, _<_}
 use lib.ListN.{length, take, drop}
 use Rattle.std.specs.shelf.Lists.{All}
 use Rattle.wire.specs.Fields.{bytes-of, number-at}
@@ -21,19 +21,27 @@ cut zero bs = []
 cut (suc k) [] = []
 cut (suc k) (b ∷ bs) = first-call (b ∷ bs) ∷ cut k (after-call (b ∷ bs))
 
--- all calls: no call takes less than a byte
+-- all calls: each takes at least a byte, so there are no more of them than bytes
 abbrev pub calls-in : List ℕ → List (List ℕ)
 calls-in bs = cut (length bs) bs
 
--- what follows the head of a file
-unfoldable pub file-of : List (List ℕ) → List ℕ
-file-of [] = []
-file-of (c ∷ cs) = bytes-of 4 (length c) ++ (c ++ file-of cs)
+-- ---- what is promised of these
 
--- the calls of any file: the first, and those of what comes after it
+-- calls as they are written, each behind its length
+unfoldable pub records : List (List ℕ) → List ℕ
+records [] = []
+records (c ∷ cs) = bytes-of 4 (length c) ++ (c ++ records cs)
+
+-- a file as it is written: its limit, its bound, its calls
+abbrev pub file-of : ℕ → ℕ → List (List ℕ) → List ℕ
+file-of rules bound cs = bytes-of 4 rules ++ (bytes-of 4 bound ++ records cs)
+
+-- any bytes are cut into the first call, and the calls of what comes after it
 abbrev pub Cut-by-cut : Type 0
 Cut-by-cut = (b : ℕ) (bs : List ℕ) → calls-in (b ∷ bs) ≡ first-call (b ∷ bs) ∷ calls-in (after-call (b ∷ bs))
 
--- a file that was written is cut into what was written
+-- a file that was written is read as what was written: its limit, its bound and its calls
 abbrev pub Files-read-back : Type 0
-Files-read-back = (cs : List (List ℕ)) → All (λ c. length c < 4294967296) cs → calls-in (file-of cs) ≡ cs
+Files-read-back =
+    (rules bound : ℕ) (cs : List (List ℕ)) → rules < 4294967296 → bound < 4294967296 → All (λ c. length c < 4294967296) cs →
+    (number-at 4 (file-of rules bound cs) 0 ≡ rules) × (number-at 4 (file-of rules bound cs) 4 ≡ bound) × (calls-in (drop 8 (file-of rules bound cs)) ≡ cs)

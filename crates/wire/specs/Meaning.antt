@@ -57,7 +57,7 @@ refusal-number MemoryTooSmall = 3
 refusal-number NoSuchRule = 4
 refusal-number BookFull = 5
 
--- and its place: the byte that doesn't fit; at opening, which of the three checks failed; else 0
+-- and its place: the byte that doesn't fit; for limits and memory, which of the three checks failed; else 0
 abbrev pub refusal-place : Refusal → ℕ
 refusal-place (Unreadable n) = n
 refusal-place OutOfRange = 0

@@ -4,7 +4,7 @@ ghost use Prim.Native.Nat.{_+_, _≤_};
 ghost use lib.ListN.{length};
 ghost use Rattle.wire.specs.Fields.{number-at};
 ghost use Rattle.wire.specs.Meaning.{refusal-number, refusal-place, refusal-if, says, says-if};
-ghost use Rattle.wire.specs.AnswerBytes.{refusal-from, answer-numbers, answer-bytes, answer-of, Answers-read-back, Refusals-read};
+ghost use Rattle.wire.specs.AnswerBytes.{refusal-from, answer-numbers, answer-bytes, answer-of, Answers-read-back, Only-answers-read, Refusals-read};
 
 // Why a call or an opening was turned away.
 #[derive(Clone, Copy)]
@@ -13,9 +13,10 @@ pub enum Refusal {
     Unreadable { place: u64 },
     // 2: a rule out of range or of a kind that can't be done, or an earning above the bound
     OutOfRange,
-    // 3: at opening, more than 64 rules, a bound above 1,000,000,000, or memory smaller than is asked for
+    // 3 at 0 and 1: an opening with more than 64 rules, or with a bound above 1,000,000,000
     TooManyRules,
     BoundTooHigh,
+    // 3 at 2: memory smaller than is asked for, or that holds no opened book
     MemoryTooSmall,
     // 4: a rule that is not there
     NoSuchRule,
@@ -115,10 +116,12 @@ impl Answer {
             _ => None,
         }
     }
-    // The answer that the bytes are, if they are one, all of them. What was written is read back.
+    // The answer that the bytes are, if they are one, all of them. What was written is read back, and
+    // only an answer's own bytes are read as it.
     pub fn from_bytes(bytes: &[u8]) -> Option<Answer>
         ensures answer { λ r. ⌜ says-if r ≡ answer-of (now (bytes .entry)) ⌝ }
         ensures back { λ _. ⌜ Answers-read-back ⌝ }
+        ensures only { λ _. ⌜ Only-answers-read ⌝ }
         ensures known { λ _. ⌜ Refusals-read ⌝ }
     {
         Answer::parse(bytes)

@@ -1,5 +1,7 @@
-use Rattle.session.proofs.Runs.{right, refusal-keeps, enough-memory}
+use Rattle.session.proofs.Runs.{right, refusal-keeps, enough-memory, bare}
 use Rattle.session.proofs.call.Needs as need
 
 pub returns : need.returns
-returns c = record { said = c .read-and-reply .ensures .said; words = c .read-and-reply .ensures .words; right = right; keeps = refusal-keeps; enough = enough-memory }
+returns c =
+    let e = c .read-and-reply .ensures in
+    record { said = e .said; words = e .words; right = right; keeps = refusal-keeps; enough = enough-memory; bare = bare }

@@ -1,4 +1,4 @@
-use mathlib.Core.Path.{_≡_, refl, sym, ap, _∙_}
+use mathlib.Core.Path.{sym}
 use Rattle.book.specs.Held.{book-of}
 use Rattle.session.proofs.Runs.{garbled-says, garbled-keeps}
 use Rattle.session.proofs.read_and_reply.Needs as need

@@ -1,6 +1,4 @@
-use mathlib.Core.Path.{_≡_, refl, sym, ap, _∙_}
-use native.Mathlib.Omega.{arith}
-use Rattle.std.proofs.shelf.Ways.{tells}
+use mathlib.Core.Path.{refl, sym}
 use Rattle.book.specs.Value.{stands-for}
 use Rattle.book.proofs.Laws.{held-good}
 use Rattle.session.proofs.Nothing.{answer-lay, answer-lift, accepts-lay, accepts-lift}

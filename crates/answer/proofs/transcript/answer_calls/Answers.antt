@@ -1,12 +1,10 @@
-use mathlib.Core.Path.{_≡_, refl, sym, ap, _∙_}
-use mathlib.Core.List.{List, [], _∷_, _++_, append-assoc}
-use Prim.Native.Nat.{ℕ, _<_}
-use native.Mathlib.Omega.{arith}
+use mathlib.Core.Path.{_≡_, sym, ap, _∙_}
+use mathlib.Core.List.{List, [], _++_, append-assoc}
+use Prim.Native.Nat.{ℕ}
 use lib.Chars.{codes}
-use lib.ListN.{length}
 use Rattle.std.specs.Of.String.{string-bytes}
 use Rattle.std.proofs.shelf.Lists.{append-nil, nil-from-length}
-use Rattle.raise.specs.Calls.{Call, Answer}
+use Rattle.raise.specs.Calls.{Call}
 use Rattle.wire.specs.CallBytes.{call-of}
 use Rattle.wire.specs.Files.{first-call, after-call}
 use Rattle.wire.specs.Meaning.{asks-or, says}

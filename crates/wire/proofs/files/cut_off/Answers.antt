@@ -1,6 +1,6 @@
 use mathlib.Core.Path.{_≡_, refl, sym, ap, _∙_}
-use mathlib.Core.List.{List, [], _∷_}
-use Prim.Native.Nat.{ℕ, min, _+_, _-_, _<_, _≤_}
+use mathlib.Core.List.{[]}
+use Prim.Native.Nat.{min, _-_, _<_}
 use native.Mathlib.Omega.{arith}
 use lib.ListN.{length, take, drop}
 use Rattle.std.proofs.shelf.Lists.{take-rest, take-all, drop-all}
