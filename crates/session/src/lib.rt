@@ -37,11 +37,11 @@ fn at_most(value: u32, most: u32) -> Option<u32>
 fn room_for(words: &[u64], rules: u32) -> Option<usize>
     ensures { λ r. ⌜ r ≡ pick (leb (asked rules) (length (now (words .entry)))) (Some (asked rules)) None ⌝ }
 {
-    let asked = words_asked(rules);
-    if words.len() < asked {
+    let count = words_asked(rules);
+    if words.len() < count {
         None
     } else {
-        Some(asked)
+        Some(count)
     }
 }
 

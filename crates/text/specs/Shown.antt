@@ -1,8 +1,9 @@
 -- Answers as text: the line that tells the answer to a call. Definitions only: nothing is assumed.
 --
 -- A number is written in decimal. A row and a safe earning come as one more than they are, and 0 where there is none.
+use mathlib.Core.Path.{_≡_}
 use mathlib.Core.List.{List, _++_}
-use Prim.Native.Nat.{ℕ, _-_, _/_, _%_}
+use Prim.Native.Nat.{ℕ, _+_, _-_, _/_, _%_, _<_}
 use lib.Chars.{codes}
 use lib.Dec.{ltb, eqb}
 use Rattle.std.specs.Written.{decimal}
@@ -51,3 +52,9 @@ abbrev pub line : Call → Answer → List ℕ
 line c (refused k n) = refusal-line k n
 line c (number n) = number-line c n
 line c (two m n) = two-line c m n
+
+-- what is shown tells the amount: two that are shown alike leave the same
+abbrev pub Amounts-differ : Type 0
+Amounts-differ =
+    (i o j p : ℕ) → i < 18446744073709551616 → o < 18446744073709551616 → j < 18446744073709551616 → p < 18446744073709551616 →
+    amount i o ≡ amount j p → i + p ≡ j + o

@@ -7,7 +7,7 @@ ghost use Rattle.std.specs.Of.String.{string-bytes};
 ghost use Rattle.std.specs.Vec.{made, refused};
 ghost use Rattle.std.specs.declared.option.Option.the-variants.{Some};
 ghost use Rattle.wire.specs.Meaning.{asks-or, says};
-ghost use Rattle.text.specs.Shown.{parted, amount, row-line, safe-line, line};
+ghost use Rattle.text.specs.Shown.{parted, amount, row-line, safe-line, line, Amounts-differ};
 use std::alloc::AllocError;
 use std::fmt;
 use wire::Answer;
@@ -114,11 +114,19 @@ pub impl fmt::Display for Line as LineDisplay {
     }
 }
 
-// Appends the line and a newline; where memory runs out, nothing.
-pub fn write_line(out: &mut String, told: &Line) -> Result<(), AllocError>
+fn append_line(out: &mut String, told: &Line) -> Result<(), AllocError>
     ensures written { λ r. ⌜ made r (λ _. string-bytes (now (out .exit)) ≡ string-bytes (now (out .entry)) ++ (line (asks-or (now (told .entry) .asked)) (says (now (told .entry) .answer)) ++ codes "\n")) ⌝ }
     ensures same { λ r. ⌜ refused r (λ _. string-bytes (now (out .exit)) ≡ string-bytes (now (out .entry))) ⌝ }
 {
     let text = format!(out.allocator(), "{told}\n")?;
     out.push_str(text.as_str())
+}
+
+// Appends the line and a newline; where memory runs out, nothing. Amounts that are shown alike are the same.
+pub fn write_line(out: &mut String, told: &Line) -> Result<(), AllocError>
+    ensures written { λ r. ⌜ made r (λ _. string-bytes (now (out .exit)) ≡ string-bytes (now (out .entry)) ++ (line (asks-or (now (told .entry) .asked)) (says (now (told .entry) .answer)) ++ codes "\n")) ⌝ }
+    ensures same { λ r. ⌜ refused r (λ _. string-bytes (now (out .exit)) ≡ string-bytes (now (out .entry))) ⌝ }
+    ensures differ { λ _. ⌜ Amounts-differ ⌝ }
+{
+    append_line(out, told)
 }
