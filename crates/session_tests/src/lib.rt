@@ -1,0 +1,3 @@
+// Tests of the session, as tables. They stand in a crate of their own, since a crate with tests is proved twice.
+#[cfg(test)]
+mod desk;
