@@ -39,7 +39,7 @@ pub impl fmt::Display for Fault as FaultDisplay {
                 };
                 write!(
                     f,
-                    "the file has {bytes} bytes, and its head has 8: {missing}"
+                    "a head of 8 bytes is wanted, the file ends after {bytes}: {missing}"
                 )
             }
             Fault::Memory => write!(f, "out of memory"),
