@@ -116,8 +116,9 @@ impl Answer {
             _ => None,
         }
     }
-    // The answer that the bytes are, if they are one, all of them. What was written is read back, and
-    // only an answer's own bytes are read as it.
+
+    // The answer that the bytes are, if they are one, all of them. What was written is read back, and only an answer's
+    // own bytes are read as it.
     pub fn from_bytes(bytes: &[u8]) -> Option<Answer>
         ensures answer { λ r. ⌜ says-if r ≡ answer-of (now (bytes .entry)) ⌝ }
         ensures back { λ _. ⌜ Answers-read-back ⌝ }
