@@ -1,1 +1,11 @@
 pub mod Below
+pub mod Search
+pub mod Rows
+pub mod Order
+pub mod Alike
+pub mod Idle
+pub mod Rates
+pub mod Lines
+pub mod Straight
+pub mod Look
+pub mod Trial

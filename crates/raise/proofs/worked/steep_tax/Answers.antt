@@ -1,0 +1,7 @@
+use mathlib.Core.Path.{refl}
+use Rattle.raise.proofs.Trial.{only-row, computed}
+use Rattle.raise.proofs.worked.steep_tax.Needs as need
+
+pub returns : need.returns
+unfolding computed
+returns c = only-row _ _ _ refl
