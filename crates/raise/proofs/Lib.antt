@@ -9,3 +9,4 @@ pub mod Lines
 pub mod Straight
 pub mod Look
 pub mod Trial
+pub mod Picks

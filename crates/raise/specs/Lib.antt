@@ -4,3 +4,4 @@ pub mod Promise
 pub mod Net
 pub mod Laws
 pub mod Worked
+pub mod Told

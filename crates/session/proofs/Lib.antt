@@ -1,3 +1,4 @@
-pub mod Nothing
+pub mod Turns
 pub mod Runs
+pub mod Nothing
 pub mod OnBytes

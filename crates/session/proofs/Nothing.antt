@@ -1,16 +1,17 @@
 -- A book without rules: what is earned is what is left, nobody loses, and the next unit is always safe.
-use mathlib.Core.Path.{_≡_, refl, ap, _∙_}
+use mathlib.Core.Path.{_≡_, refl, sym, ap, _∙_}
 use mathlib.Core.Bool.{Bool, true, false, not, _&&_}
 use mathlib.Core.Logic.{inl, inr}
-use mathlib.Core.List.{[]}
+use mathlib.Core.List.{List, [], _∷_, map}
 use Prim.Native.Nat.{ℕ, zero, suc, _+_, _*_, _-_, _<_, _≤_}
 use native.Mathlib.Omega.{arith}
 use lib.Dec.{ltb, leb, eqb}
-use Rattle.std.proofs.shelf.Tests.{le-ltb, lt-ltb, or-from, and-from, and-left, not-from-false, cases-bool}
+use Rattle.std.proofs.shelf.Tests.{le-ltb, lt-ltb, or-from, and-from, and-left, and-parts, both-ways, not-true, not-from-false, cases-bool}
 use Rattle.std.proofs.shelf.Ways.{tells}
 use Rattle.raise.specs.Rules.{pick, Rule, all-plus, all-minus, less-left, some-less, loses, first-that, all-as-much, safe-from}
-use Rattle.raise.specs.Calls.{lays, lifts, left-of, next-row, safe, refused, number, two, turned, place, told, row-from, answer}
-use Rattle.session.specs.Memory.{limited}
+use Rattle.raise.specs.Calls.{Call, Answer, Limits, lays, lifts, left-of, next-row, safe, garbled, turned, place, changed, after, told, row-from, answer, answers}
+use Rattle.session.specs.Memory.{limits, empty, is-lay, lays-nothing, plain, no-kinds, Plain, As-before}
+use Rattle.session.proofs.Runs.{told-opened}
 
 not-less : (g h : ℕ) → g ≤ h → less-left [] g h ≡ false
 unfolding all-plus all-minus
@@ -58,53 +59,68 @@ safe-last b g e =
     let s : suc b - g ≡ suc zero = omega arith in
     ap (λ (n : ℕ). first-that (safe-test b g) n g) s ∙ after-itself b g zero
 
--- ---- the answers
+same : (t : Bool) → pick {A = List Rule} t [] [] ≡ []
+same true = refl
+same false = refl
 
-pub answer-lay : (n b : ℕ) (r : Rule) → answer (limited n b) [] (lays r) ≡ refused 2 0
-unfolding turned place
-answer-lay n b r = refl
+-- ---- the answers, by whatever kinds there are
 
-pub answer-lift : (n b i : ℕ) → answer (limited n b) [] (lifts i) ≡ refused 4 0
-unfolding turned place
-answer-lift n b i = rw (le-ltb i 0 (omega arith)) refl
-
-pub answer-left : (n b g : ℕ) → answer (limited n b) [] (left-of g) ≡ pick (leb g b) (two (10000 * g) 0) (refused 2 0)
-unfolding turned place told all-plus all-minus
-answer-left n b g = elim (cases-bool (leb g b)) [ inl t ↦ rw t refl | inr t ↦ rw t refl ]
-
-pub answer-row : (n b g : ℕ) → answer (limited n b) [] (next-row g) ≡ pick (leb g b) (two 0 0) (refused 2 0)
-unfolding turned place told row-from
-answer-row n b g = elim (cases-bool (leb g b)) [ inl t ↦ rw (t, none-loses b (suc b - g) g) refl | inr t ↦ rw t refl ]
-
-pub answer-safe : (n b g : ℕ) → answer (limited n b) [] (safe g) ≡ pick (leb g b) (number (pick (ltb g b) (g + 2) 0)) (refused 2 0)
-unfolding turned place told
-answer-safe n b g =
-    elim (cases-bool (leb g b)) [
-      | inl t ↦ elim (cases-bool (ltb g b)) [
-        | inl u ↦ let l : g < b = grind (arith, tells) in rw (t, u, safe-next b g l) refl
-        | inr u ↦ let e : g ≡ b = grind (arith, tells) in rw (t, u, safe-last b g e) refl
+pub plain-answer : (l : Limits) (c : Call) → is-lay c ≡ false → answer l [] c ≡ plain (l .bound) c
+unfolding turned place told row-from all-plus all-minus
+plain-answer l (lays r) e = absurd (both-ways true e refl)
+plain-answer l (lifts i) e = rw (le-ltb i 0 (omega arith)) refl
+plain-answer l (left-of g) e = elim (cases-bool (leb g (l .bound))) [ inl t ↦ rw t refl | inr t ↦ rw t refl ]
+plain-answer l (next-row g) e = elim (cases-bool (leb g (l .bound))) [ inl t ↦ rw (t, none-loses (l .bound) (suc (l .bound) - g) g) refl | inr t ↦ rw t refl ]
+plain-answer l (safe g) e =
+    elim (cases-bool (leb g (l .bound))) [
+      | inl t ↦ elim (cases-bool (ltb g (l .bound))) [
+        | inl u ↦ let h : g < l .bound = grind (arith, tells) in rw (t, u, safe-next (l .bound) g h) refl
+        | inr u ↦ let h : g ≡ l .bound = grind (arith, tells) in rw (t, u, safe-last (l .bound) g h) refl
       ]
       | inr t ↦ rw t refl
     ]
+plain-answer l (garbled n) e = refl
 
--- ---- which calls are accepted
+-- and none of these calls lays a rule
+plain-after : (l : Limits) (c : Call) → is-lay c ≡ false → after l [] c ≡ []
+unfolding turned changed
+plain-after l (lays r) e = absurd (both-ways true e refl)
+plain-after l (lifts i) e = rw (le-ltb i 0 (omega arith)) refl
+plain-after l (left-of g) e = same (eqb (turned l [] (left-of g)) 0)
+plain-after l (next-row g) e = same (eqb (turned l [] (next-row g)) 0)
+plain-after l (safe g) e = same (eqb (turned l [] (safe g)) 0)
+plain-after l (garbled n) e = refl
 
-pub accepts-lay : (n b : ℕ) (r : Rule) → eqb (turned (limited n b) [] (lays r)) 0 ≡ false
-unfolding turned
-accepts-lay n b r = refl
+pub plain-answers : (l : Limits) (cs : List Call) → lays-nothing cs ≡ true → answers l [] cs ≡ map (plain (l .bound)) cs
+unfolding answers lays-nothing
+plain-answers l [] e = refl
+plain-answers l (c ∷ cs) e =
+    let p = and-parts (not (is-lay c)) (lays-nothing cs) e in
+    let n : is-lay c ≡ false = not-true (is-lay c) (p .0) in
+    ap (λ (a : Answer). a ∷ answers l (after l [] c) cs) (plain-answer l c n) ∙ ap (λ (rs : List Rule). plain (l .bound) c ∷ answers l rs cs) (plain-after l c n) ∙
+    ap (λ (xs : List Answer). plain (l .bound) c ∷ xs) (plain-answers l cs (p .1))
 
-pub accepts-lift : (n b i : ℕ) → eqb (turned (limited n b) [] (lifts i)) 0 ≡ false
-unfolding turned
-accepts-lift n b i = rw (le-ltb i 0 (omega arith)) refl
+-- ---- where no kind can be done, nothing is ever laid
 
-pub accepts-left : (n b g : ℕ) → eqb (turned (limited n b) [] (left-of g)) 0 ≡ leb g b
-unfolding turned
-accepts-left n b g = elim (cases-bool (leb g b)) [ inl t ↦ rw t refl | inr t ↦ rw t refl ]
+abbrev without : ℕ → ℕ → Limits
+without n b = record { rules-can = no-kinds; rules = n; bound = b }
 
-pub accepts-row : (n b g : ℕ) → eqb (turned (limited n b) [] (next-row g)) 0 ≡ leb g b
-unfolding turned
-accepts-row n b g = elim (cases-bool (leb g b)) [ inl t ↦ rw t refl | inr t ↦ rw t refl ]
+never-laid : (n b : ℕ) (c : Call) → (answer (without n b) [] c ≡ plain b c) × (after (without n b) [] c ≡ [])
+unfolding turned place
+never-laid n b (lays r) = (refl, refl)
+never-laid n b (lifts i) = (plain-answer (without n b) (lifts i) refl, plain-after (without n b) (lifts i) refl)
+never-laid n b (left-of g) = (plain-answer (without n b) (left-of g) refl, plain-after (without n b) (left-of g) refl)
+never-laid n b (next-row g) = (plain-answer (without n b) (next-row g) refl, plain-after (without n b) (next-row g) refl)
+never-laid n b (safe g) = (plain-answer (without n b) (safe g) refl, plain-after (without n b) (safe g) refl)
+never-laid n b (garbled k) = (refl, refl)
 
-pub accepts-safe : (n b g : ℕ) → eqb (turned (limited n b) [] (safe g)) 0 ≡ leb g b
-unfolding turned
-accepts-safe n b g = elim (cases-bool (leb g b)) [ inl t ↦ rw t refl | inr t ↦ rw t refl ]
+pub all-plain : Plain
+unfolding answers
+all-plain n b [] = refl
+all-plain n b (c ∷ cs) =
+    let p = never-laid n b c in
+    ap (λ (a : Answer). a ∷ answers (without n b) (after (without n b) [] c) cs) (p .0) ∙ ap (λ (rs : List Rule). plain b c ∷ answers (without n b) rs cs) (p .1) ∙
+    ap (λ (xs : List Answer). plain b c ∷ xs) (all-plain n b cs)
+
+pub as-before : As-before
+as-before ws l cs a e = told-opened ws l cs a ∙ plain-answers (limits (empty l)) cs e ∙ sym (all-plain (l .rules) (l .bound) cs)

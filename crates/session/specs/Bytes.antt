@@ -9,11 +9,11 @@ use Rattle.std.specs.declared.option.Option.the-variants.{Some}
 use Rattle.std.specs.shelf.Lists.{All}
 use Rattle.raise.specs.Rules.{pick}
 use Rattle.raise.specs.Calls.{Limits, number, turned, answers}
-use Rattle.raise.specs.Promise.{ran, all-below}
+use Rattle.raise.specs.Promise.{ran, all-below, thin}
 use Rattle.wire.specs.CallBytes.{call-of}
 use Rattle.wire.specs.AnswerBytes.{answer-bytes, answer-of}
 use Rattle.book.specs.Held.{asked}
-use Rattle.session.specs.Memory.{kinds, opening, open-words, says-words, next-words}
+use Rattle.session.specs.Memory.{opening, open-words, says-words, next-words}
 
 -- the bytes that are answered, and the words after it
 abbrev pub says-bytes : List ℕ → List ℕ → List ℕ
@@ -39,19 +39,19 @@ left-bytes ws (bs ∷ bss) = left-bytes (next-bytes ws bs) bss
 -- the bytes answered are those of the written book's answers
 abbrev pub Right-bytes : Type 0
 Right-bytes =
-    (ws : List ℕ) (l : Limits) (bss : List (List ℕ)) → l .rules-can ≡ kinds → opening ws l ≡ number 0 →
+    (ws : List ℕ) (l : Limits) (bss : List (List ℕ)) → l .rules-can ≡ thin → opening ws l ≡ number 0 →
     told-bytes (open-words ws l) bss ≡ map answer-bytes (answers l [] (map call-of bss))
 
 -- and they are read back as these: no number is cut short
 abbrev pub Read-back-bytes : Type 0
 Read-back-bytes =
-    (ws : List ℕ) (l : Limits) (bss : List (List ℕ)) → l .rules-can ≡ kinds → opening ws l ≡ number 0 → All (λ bs. all-below 256 bs ≡ true) bss →
+    (ws : List ℕ) (l : Limits) (bss : List (List ℕ)) → l .rules-can ≡ thin → opening ws l ≡ number 0 → All (λ bs. all-below 256 bs ≡ true) bss →
     map answer-of (told-bytes (open-words ws l) bss) ≡ map Some (answers l [] (map call-of bss))
 
 -- bytes that are turned away change nothing
 abbrev pub Refusal-keeps-bytes : Type 0
 Refusal-keeps-bytes =
-    (ws : List ℕ) (l : Limits) (bss : List (List ℕ)) (bs : List ℕ) → l .rules-can ≡ kinds → opening ws l ≡ number 0 → 0 < turned l (ran l [] (map call-of bss)) (call-of bs) →
+    (ws : List ℕ) (l : Limits) (bss : List (List ℕ)) (bs : List ℕ) → l .rules-can ≡ thin → opening ws l ≡ number 0 → 0 < turned l (ran l [] (map call-of bss)) (call-of bs) →
     next-bytes (left-bytes (open-words ws l) bss) bs ≡ left-bytes (open-words ws l) bss
 
 -- the words asked for are at most 64 a rule and 256 more; each of them stays within 64 bits, and those behind them stay as they were

@@ -1,8 +1,8 @@
 -- What open and call make of lent words, whatever the words are; the desk made of these; and what is promised of whole sessions.
 -- Nothing is assumed.
 use mathlib.Core.Path.{_≡_}
-use mathlib.Core.Bool.{Bool, false}
-use mathlib.Core.List.{List, [], _∷_, _++_}
+use mathlib.Core.Bool.{Bool, true, false, not, _&&_}
+use mathlib.Core.List.{List, [], _∷_, _++_, map}
 use Prim.Native.Nat.{ℕ, _+_, _*_, _<_, _≤_}
 use lib.Dec.{ltb, leb, eqb}
 use lib.ListN.{length, drop, replicate}
@@ -11,18 +11,15 @@ use Rattle.std.specs.declared.option.Option.the-variants.{Some, None}
 use Rattle.std.specs.declared.result.Result.{Result}
 use Rattle.std.specs.declared.result.Result.the-variants.{Ok, Err}
 use Rattle.raise.specs.Rules.{pick, Rule}
-use Rattle.raise.specs.Calls.{Call, Answer, Limits, lays, lifts, left-of, next-row, safe, garbled, refused, number, two, turned, answer, answers}
-use Rattle.raise.specs.Promise.{Desk, ran}
+use Rattle.raise.specs.Calls.{Call, Answer, Limits, lays, lifts, left-of, next-row, safe, garbled, refused, number, two, turned, changed, answer, answers}
+use Rattle.raise.specs.Promise.{Desk, ran, thin}
 use Rattle.wire.specs.declared.answers.Refusal.{Refusal}
 use Rattle.wire.specs.Meaning.{refusal-number, refusal-place}
-use Rattle.book.specs.Held.{Book, asked, image, book-of, rules-in}
+use Rattle.book.specs.Held.{Book, asked, image, book-of, with-rules}
 
--- the kinds of rules that can be done at this stage: none
-abbrev pub kinds : ℕ → Bool
-kinds k = false
-
+-- this stage has rates only: take and give
 abbrev pub limited : ℕ → ℕ → Limits
-limited rules bound = record { rules-can = kinds; rules = rules; bound = bound }
+limited rules bound = record { rules-can = thin; rules = rules; bound = bound }
 
 -- ---- open
 
@@ -37,7 +34,7 @@ opening ws l = pick (ltb 64 (l .rules)) (refused 3 0) (pick (ltb 1000000000 (l .
 
 -- the book that is opened
 abbrev pub empty : Limits → Book
-empty l = record { limit = l .rules; bound = l .bound }
+empty l = record { limit = l .rules; bound = l .bound; rules = [] }
 
 abbrev pub unless-refused : Answer → List ℕ → List ℕ → List ℕ
 unless-refused (refused k n) new old = old
@@ -64,12 +61,12 @@ without-book (garbled n) = refused 1 n
 
 abbrev pub says-in : Call → Option Book → Answer
 says-in c None = without-book c
-says-in c (Some b) = answer (limits b) (rules-in b) c
+says-in c (Some b) = answer (limits b) (b .rules) c
 
 -- an accepted call leaves the book after it, whole, and the words behind it as they were
 abbrev pub next-in : List ℕ → Call → Option Book → List ℕ
 next-in ws c None = ws
-next-in ws c (Some b) = pick (eqb (turned (limits b) (rules-in b) c) 0) (image b ++ drop (asked (b .limit)) ws) ws
+next-in ws c (Some b) = pick (eqb (turned (limits b) (b .rules) c) 0) (image (with-rules b (changed (b .rules) c)) ++ drop (asked (b .limit)) ws) ws
 
 -- the answer to a call, and the words after it, for any words
 abbrev pub says-words : List ℕ → Call → Answer
@@ -121,19 +118,42 @@ Opened l (two m n) before opened = Serves l before opened
 abbrev pub Suffices : Limits → List ℕ → Answer → Type 0
 Suffices l ws a = l .rules ≤ 64 → l .bound ≤ 1000000000 → 64 * l .rules + 256 ≤ length ws → a ≡ number 0
 
--- ---- this stage in plain words
+-- ---- books without rules
 
-abbrev pub in-bound : Book → ℕ → Answer → Answer
-in-bound b g a = pick (leb g (b .bound)) a (refused 2 0)
+abbrev pub is-lay : Call → Bool
+is-lay (lays r) = true
+is-lay (lifts i) = false
+is-lay (left-of g) = false
+is-lay (next-row g) = false
+is-lay (safe g) = false
+is-lay (garbled n) = false
 
--- a book that can hold no rules: none is laid and there is none to lift; all that is earned is left; nobody loses; the next unit is safe,
--- unless it lies above the bound
-pub record Bare-book (b : Book) : Type 0 where
-  pub lay : (r : Rule) → says-in (lays r) (Some b) ≡ refused 2 0
-  pub lift : (i : ℕ) → says-in (lifts i) (Some b) ≡ refused 4 0
-  pub left : (g : ℕ) → says-in (left-of g) (Some b) ≡ in-bound b g (two (10000 * g) 0)
-  pub row : (g : ℕ) → says-in (next-row g) (Some b) ≡ in-bound b g (two 0 0)
-  pub safe-next : (g : ℕ) → says-in (safe g) (Some b) ≡ in-bound b g (number (pick (ltb g (b .bound)) (g + 2) 0))
+unfoldable pub lays-nothing : List Call → Bool
+lays-nothing [] = true
+lays-nothing (c ∷ cs) = not (is-lay c) && lays-nothing cs
 
-abbrev pub Bare : Type 0
-Bare = (b : Book) → Bare-book b
+abbrev pub in-bound : ℕ → ℕ → Answer → Answer
+in-bound b g a = pick (leb g b) a (refused 2 0)
+
+-- what is answered up to a bound where no rule is laid nor can be, in plain words: there is none to lift; all that is earned is left;
+-- nobody loses; the next unit is safe, unless it lies above the bound
+abbrev pub plain : ℕ → Call → Answer
+plain b (lays r) = refused 2 0
+plain b (lifts i) = refused 4 0
+plain b (left-of g) = in-bound b g (two (10000 * g) 0)
+plain b (next-row g) = in-bound b g (two 0 0)
+plain b (safe g) = in-bound b g (number (pick (ltb g b) (g + 2) 0))
+plain b (garbled n) = refused 1 n
+
+-- a book that can do no kind of rule answers just that, to every list of calls
+abbrev pub no-kinds : ℕ → Bool
+no-kinds k = false
+
+abbrev pub Plain : Type 0
+Plain = (n b : ℕ) (cs : List Call) → answers (record { rules-can = no-kinds; rules = n; bound = b }) [] cs ≡ map (plain b) cs
+
+-- and so does this stage, to every list of calls that lays nothing
+abbrev pub As-before : Type 0
+As-before =
+    (ws : List ℕ) (l : Limits) (cs : List Call) → opening ws l ≡ number 0 → lays-nothing cs ≡ true →
+    told-words (open-words ws l) cs ≡ answers (record { rules-can = no-kinds; rules = l .rules; bound = l .bound }) [] cs

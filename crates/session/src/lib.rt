@@ -1,37 +1,27 @@
 // The session: a book is opened in lent words, and from then on each call, as bytes, gets its answer. The words are all
 // the state, nothing is allocated, and a call that is turned away changes nothing.
 // Any words and any bytes may be handed in: what cannot serve is refused.
+mod replies;
+
 ghost use mathlib.Core.Path.{_≡_};
 ghost use mathlib.Core.List.{_++_};
-ghost use Prim.Native.Nat.{_≤_};
 ghost use lib.Dec.{leb};
 ghost use lib.ListN.{length, drop};
 ghost use Rattle.std.specs.declared.option.Option.the-variants.{Some, None};
 ghost use Rattle.raise.specs.Rules.{pick};
-ghost use Rattle.raise.specs.Calls.{left-of, next-row, safe};
-ghost use Rattle.raise.specs.Promise.{Right, Refusal-keeps, Enough-memory};
-ghost use Rattle.wire.specs.Meaning.{asks, says};
+ghost use Rattle.raise.specs.Promise.{thin, Right, Refusal-keeps, Enough-memory};
+ghost use Rattle.wire.specs.Meaning.{says};
 ghost use Rattle.wire.specs.CallBytes.{call-of};
 ghost use Rattle.book.specs.Held.{asked};
-ghost use Rattle.book.specs.Value.{stands-for};
-ghost use Rattle.session.specs.Memory.{kinds, limited, said-open, opening, open-words, Opened, Suffices, Bare, says-in, next-in, says-words, next-words, desk};
+ghost use Rattle.session.specs.Memory.{limited, said-open, opening, open-words, Opened, Suffices, Plain, As-before, says-words, next-words, desk};
 ghost use Rattle.session.specs.Bytes.{says-bytes, next-bytes, if-room, Right-bytes, Read-back-bytes, Refusal-keeps-bytes, Enough-memory-bytes};
-use book::Book;
-use book::read_book;
+use book::open_empty;
 use book::words_asked;
-use book::write_book;
-use raise::fine;
+use replies::at_most;
+use replies::reply;
 use wire::Answer;
-use wire::Call;
 use wire::Refusal;
 use wire::read_call;
-
-// The value, if it is at most so much.
-fn at_most(value: u32, most: u32) -> Option<u32>
-    ensures { λ r. ⌜ r ≡ pick (leb value most) (Some value) None ⌝ }
-{
-    if value <= most { Some(value) } else { None }
-}
 
 // How many words a limit of so many rules asks for, if there are so many.
 fn room_for(words: &[u64], rules: u32) -> Option<usize>
@@ -59,68 +49,8 @@ fn open_book(words: &mut [u64], rules: u32, bound: u32) -> Result<(), Refusal>
     let Some(_) = room_for(words, limit) else {
         return Err(Refusal::MemoryTooSmall);
     };
-    write_book(words, Book { limit, bound });
+    open_empty(words, limit, bound);
     Ok(())
-}
-
-// What comes in and what goes out.
-fn tell_left(words: &mut [u64], book: Book, gross: u32) -> Answer
-    requires { ⌜ asked (book .limit) ≤ length (now words) ⌝ }
-    ensures said { λ r. ⌜ says r ≡ says-in (left-of gross) (Some (stands-for book)) ⌝ }
-    ensures words { λ _. ⌜ now (words .exit) ≡ next-in (now (words .entry)) (left-of gross) (Some (stands-for book)) ⌝ }
-{
-    let Some(gross) = at_most(gross, book.bound) else {
-        return Answer::Refused(Refusal::OutOfRange);
-    };
-    write_book(words, book);
-    Answer::Two(fine(gross), 0)
-}
-
-// Without rules nobody loses.
-fn tell_row(words: &mut [u64], book: Book, gross: u32) -> Answer
-    requires { ⌜ asked (book .limit) ≤ length (now words) ⌝ }
-    ensures said { λ r. ⌜ says r ≡ says-in (next-row gross) (Some (stands-for book)) ⌝ }
-    ensures words { λ _. ⌜ now (words .exit) ≡ next-in (now (words .entry)) (next-row gross) (Some (stands-for book)) ⌝ }
-{
-    let Some(_) = at_most(gross, book.bound) else {
-        return Answer::Refused(Refusal::OutOfRange);
-    };
-    write_book(words, book);
-    Answer::Two(0, 0)
-}
-
-// Without rules the next unit is safe, if the bound allows for one.
-fn tell_safe(words: &mut [u64], book: Book, gross: u32) -> Answer
-    requires { ⌜ asked (book .limit) ≤ length (now words) ⌝ }
-    ensures said { λ r. ⌜ says r ≡ says-in (safe gross) (Some (stands-for book)) ⌝ }
-    ensures words { λ _. ⌜ now (words .exit) ≡ next-in (now (words .entry)) (safe gross) (Some (stands-for book)) ⌝ }
-{
-    let Some(gross) = at_most(gross, book.bound) else {
-        return Answer::Refused(Refusal::OutOfRange);
-    };
-    write_book(words, book);
-    if gross < book.bound {
-        Answer::Number(u64::from(gross) + 2)
-    } else {
-        Answer::Number(0)
-    }
-}
-
-// The answer to a call, if the words hold a book. No kind of rule can be done at this stage, so there is none to lift.
-fn reply(words: &mut [u64], call: Call) -> Answer
-    ensures said { λ r. ⌜ says r ≡ says-words (now (words .entry)) (asks call) ⌝ }
-    ensures words { λ _. ⌜ now (words .exit) ≡ next-words (now (words .entry)) (asks call) ⌝ }
-{
-    let Some(book) = read_book(words) else {
-        return Answer::Refused(Refusal::MemoryTooSmall);
-    };
-    match call {
-        Call::Lay(_) => Answer::Refused(Refusal::OutOfRange),
-        Call::Lift(_) => Answer::Refused(Refusal::NoSuchRule),
-        Call::Left(gross) => tell_left(words, book, gross),
-        Call::Row(gross) => tell_row(words, book, gross),
-        Call::Safe(gross) => tell_safe(words, book, gross),
-    }
 }
 
 // Opens a book in the lent words, for so many rules and earnings up to so much. An accepted opening serves for good.
@@ -151,10 +81,11 @@ fn read_and_reply(words: &mut [u64], bytes: &[u8]) -> Answer
 pub fn call(words: &mut [u64], bytes: &[u8]) -> Answer
     ensures said { λ r. ⌜ says r ≡ says-words (now (words .entry)) (call-of (now (bytes .entry))) ⌝ }
     ensures words { λ _. ⌜ now (words .exit) ≡ next-words (now (words .entry)) (call-of (now (bytes .entry))) ⌝ }
-    ensures right { λ _. ⌜ Right kinds desk ⌝ }
-    ensures keeps { λ _. ⌜ Refusal-keeps kinds desk ⌝ }
+    ensures right { λ _. ⌜ Right thin desk ⌝ }
+    ensures keeps { λ _. ⌜ Refusal-keeps thin desk ⌝ }
     ensures enough { λ _. ⌜ Enough-memory desk ⌝ }
-    ensures bare { λ _. ⌜ Bare ⌝ }
+    ensures plain { λ _. ⌜ Plain ⌝ }
+    ensures before { λ _. ⌜ As-before ⌝ }
 {
     read_and_reply(words, bytes)
 }

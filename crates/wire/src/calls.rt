@@ -74,8 +74,8 @@ fn at_most(bytes: &[u8], size: usize) -> Option<&[u8]>
     }
 }
 
-// The rule of a kind from 0 to 4, by its three fields.
-fn rule_of_kind(kind: u8, from: u32, second: u32, last: u32) -> Rule
+// The rule of a kind from 0 to 4, by its three numbers; any other kind counts as 4.
+pub fn rule_of_kind(kind: u8, from: u32, second: u32, last: u32) -> Rule
     ensures { λ r. ⌜ meant r ≡ rule-from kind from second last ⌝ }
 {
     match kind {

@@ -10,6 +10,7 @@ pub use calls::Call;
 pub use calls::Garbled;
 pub use calls::Rule;
 pub use calls::read_call;
+pub use calls::rule_of_kind;
 pub use files::Head;
 pub use files::next_call;
 pub use files::read_head;

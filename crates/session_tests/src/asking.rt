@@ -1,0 +1,71 @@
+// Calls as bytes, and what they must answer.
+use session::call;
+use session::open;
+use std::test::*;
+use wire::Answer;
+use wire::Refusal;
+
+pub const MOST: u32 = 1_000_000_000;
+
+pub const TAKE: u8 = 0;
+
+pub const GIVE: u8 = 1;
+
+pub const TAKE_SUM: u8 = 2;
+
+pub const GIVE_SUM: u8 = 3;
+
+pub const FADE: u8 = 4;
+
+pub const LIFT: u8 = 1;
+
+pub const LEFT: u8 = 2;
+
+pub const ROW: u8 = 3;
+
+pub const SAFE: u8 = 4;
+
+pub fn says(words: &mut [u64], bytes: &[u8], answer: Answer) -> Result<(), Fail> {
+    check_eq(call(words, bytes).to_bytes(), answer.to_bytes())
+}
+
+// A call that is turned away leaves every word as it was.
+pub fn refuses(words: &mut [u64; 2116], bytes: &[u8], refusal: Refusal) -> Result<(), Fail> {
+    let before = *words;
+    says(words, bytes, Answer::Refused(refusal))?;
+    check_eq(*words, before)
+}
+
+pub fn lay(kind: u8, from: u32, second: u32, last: u32) -> [u8; 14] {
+    let a = from.to_le_bytes();
+    let b = second.to_le_bytes();
+    let c = last.to_le_bytes();
+    [
+        0,
+        kind,
+        a[0],
+        a[1],
+        a[2],
+        a[3],
+        b[0],
+        b[1],
+        b[2],
+        b[3],
+        c[0],
+        c[1],
+        c[2],
+        c[3],
+    ]
+}
+
+pub fn ask(kind: u8, value: u32) -> [u8; 5] {
+    let v = value.to_le_bytes();
+    [kind, v[0], v[1], v[2], v[3]]
+}
+
+// Words for 64 rules and four more, with a book in them.
+pub fn opened(rules: u32, bound: u32) -> Result<[u64; 2116], Fail> {
+    let mut words = [7u64; 2116];
+    open(&mut words, rules, bound).ok().ok_or("not opened")?;
+    Ok(words)
+}
