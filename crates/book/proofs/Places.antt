@@ -1,12 +1,12 @@
 -- Rules in slots: what was written reads back, one slot more, and what is left when one is lifted.
 use mathlib.Core.Path.{_≡_, refl, sym, ap, _∙_}
-use mathlib.Core.Bool.{Bool, true, false, _&&_}
+use mathlib.Core.Bool.{Bool, true, _&&_}
 use mathlib.Core.List.{List, [], _∷_, _++_, map, append-assoc}
 use mathlib.Core.Logic.{inl, inr}
 use Prim.Native.Nat.{ℕ, zero, suc, _+_, _*_, _-_, _<_, _≤_}
 use native.Mathlib.Omega.{arith}
 use borrow.Rule.Slice.PartMut.{putMid}
-use lib.Dec.{leb, eqb}
+use lib.Dec.{leb}
 use lib.ListN.{length, getD, take, drop, set}
 use Rattle.std.specs.Joined.{joined}
 use Rattle.std.specs.shelf.Maps.{nth}
@@ -17,7 +17,6 @@ use Rattle.std.proofs.shelf.Lists.{take-at, take-all, take-more, take-take, tak
 use Rattle.std.proofs.shelf.Maps.{nth-getD, nth-past}
 use Rattle.std.proofs.shelf.Parts.{between-is}
 use Rattle.std.proofs.shelf.Tests.{and-parts, and-from, cases-bool}
-use Rattle.std.proofs.shelf.Ways.{tells}
 use Rattle.raise.specs.Rules.{pick, Rule, takes, gives, takes-sum, gives-sum, fades}
 use Rattle.raise.specs.Calls.{rule-number, fine}
 use Rattle.raise.proofs.Picks.{none-some}

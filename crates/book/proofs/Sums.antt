@@ -1,16 +1,15 @@
 -- Sums over rules: one rule more at the end, and how large they get.
 use mathlib.Core.Path.{_≡_, refl, sym, ap, _∙_}
-use mathlib.Core.Bool.{Bool, true, _&&_}
+use mathlib.Core.Bool.{true}
 use mathlib.Core.List.{List, [], _∷_, _++_, map}
 use Prim.Native.Nat.{ℕ, zero, suc, _+_, _*_, _-_, _<_, _≤_}
 use native.Mathlib.Omega.{arith}
-use lib.Dec.{ltb, leb}
 use lib.ListN.{length, getD, take}
 use Rattle.std.proofs.shelf.Bits.{mul-le}
 use Rattle.std.proofs.shelf.Lists.{map-more, length-map, length-take}
 use Rattle.std.proofs.shelf.Tests.{and-parts, and-from}
 use Rattle.std.proofs.shelf.Ways.{tells}
-use Rattle.raise.specs.Rules.{pick, lesser, Rule, takes, gives, takes-sum, gives-sum, fades, plus, minus, all-plus, all-minus}
+use Rattle.raise.specs.Rules.{lesser, Rule, takes, gives, takes-sum, gives-sum, fades, plus, minus, all-plus, all-minus}
 use Rattle.raise.specs.Calls.{fine}
 use Rattle.wire.specs.declared.calls.Rule as declared
 use Rattle.wire.specs.Meaning.{meant}

@@ -1,6 +1,6 @@
 -- The code's book as a value that was read from words.
-use mathlib.Core.Path.{_≡_, refl, sym, ap, _∙_}
-use mathlib.Core.Bool.{Bool, true, false}
+use mathlib.Core.Path.{_≡_, refl, sym, ap}
+use mathlib.Core.Bool.{true}
 use mathlib.Core.List.{List}
 use Prim.Native.Nat.{ℕ, _+_, _*_, _≤_}
 use native.Mathlib.Omega.{arith}
@@ -12,8 +12,8 @@ use Rattle.raise.specs.Rules.{pick}
 use Rattle.raise.proofs.Picks.{picked, not-picked}
 use Rattle.wire.specs.declared.calls.Rule.{Rule}
 use Rattle.book.specs.declared.held.Book.{Book}
-use Rattle.book.specs.Held.{head-fine, rules-of, width, opened, book-of}
-use Rattle.book.specs.Meant.{all-meant, first-meant}
+use Rattle.book.specs.Held.{head-fine, rules-of, width, book-of}
+use Rattle.book.specs.Meant.{all-meant}
 use Rattle.book.specs.Value.{stands-for, stands-if, Read-from, Read-if}
 use Rattle.book.proofs.Laws.{held-good}
 

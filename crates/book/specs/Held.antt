@@ -8,7 +8,7 @@ use mathlib.Core.Path.{_≡_}
 use mathlib.Core.Bool.{Bool, true, _&&_}
 use mathlib.Core.List.{List, [], _∷_, _++_}
 use Prim.Native.Nat.{ℕ, zero, suc, _+_, _*_, _-_, _≤_, _<_}
-use lib.Dec.{leb, eqb}
+use lib.Dec.{ltb, leb, eqb}
 use lib.ListN.{length, getD, drop, replicate}
 use Rattle.std.specs.Joined.{joined}
 use Rattle.std.specs.declared.option.Option.{Option}
@@ -55,6 +55,16 @@ slot r = rule-number r ∷ numbers r
 -- front and slots, and zeros up to the last word asked for
 unfoldable pub image : Book → List ℕ
 image b = (head-words (b .limit) (b .bound) (length (b .rules)) ++ joined slot (b .rules)) ++ replicate (asked (b .limit) - (4 + width * length (b .rules))) 0
+
+-- the words after its rules were changed: the book with the new ones, and what is behind it as it was
+abbrev pub rewritten : List ℕ → Book → List Rule → List ℕ
+rewritten ws b rs = image (with-rules b rs) ++ drop (asked (b .limit)) ws
+
+abbrev pub has-room : Book → Bool
+has-room b = ltb (length (b .rules)) (b .limit)
+
+abbrev pub has-rule : Book → ℕ → Bool
+has-rule b i = ltb i (length (b .rules))
 
 -- ---- the book that words hold, if they hold one
 

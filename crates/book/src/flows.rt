@@ -1,6 +1,5 @@
 // What all rules together let in and out of a gross.
 ghost use mathlib.Core.Path.{_≡_};
-ghost use Prim.Native.Nat.{_<_};
 ghost use Rattle.raise.specs.Rules.{all-plus, all-minus};
 ghost use Rattle.raise.specs.Net.{net};
 ghost use Rattle.book.specs.Held.{Within, Amounts-fit};

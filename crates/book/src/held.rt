@@ -1,16 +1,15 @@
 // The layout: a front of four words, a slot for each rule up to the limit, and scratch.
 ghost use mathlib.Core.Path.{_≡_};
-ghost use mathlib.Core.Bool.{true, false};
 ghost use mathlib.Core.List.{_++_, []};
 ghost use Prim.Native.Nat.{_+_, _*_, _≤_, _<_};
-ghost use lib.Dec.{ltb, leb};
+ghost use lib.Dec.{ltb};
 ghost use lib.ListN.{length, drop, getD};
 ghost use Rattle.std.specs.shelf.Maps.{nth};
 ghost use Rattle.std.specs.declared.option.Option.the-variants.{Some, None};
 ghost use Rattle.raise.specs.Rules.{pick};
 ghost use Rattle.raise.specs.Calls.{lays, lifts, changed};
 ghost use Rattle.wire.specs.Meaning.{meant};
-ghost use Rattle.book.specs.Held.{asked, width, head-words, head-fine, image, rules-of, book-of, with-rules, Reads-back, Holds-good, Images-differ};
+ghost use Rattle.book.specs.Held.{asked, width, head-fine, image, rules-of, book-of, rewritten, has-room, has-rule, Reads-back, Holds-good, Images-differ};
 ghost use Rattle.book.specs.Meant.{all-meant, meant-if, first-meant};
 ghost use Rattle.book.specs.Value.{stands-for, stands-if, Sized, Read-from, Read-if};
 use crate::slots::SLOT;
@@ -176,8 +175,8 @@ impl Book {
 // One rule more, as the last: its number, if there is room for it. Nothing is written where there is none.
 pub fn lay(words: &mut [u64], mut book: Book, rule: Rule) -> Option<u32>
     requires { ⌜ Read-from (now words) book ⌝ }
-    ensures number { λ r. ⌜ r ≡ pick (ltb (length (stands-for book .rules)) (book .limit)) (Some (length (stands-for book .rules))) None ⌝ }
-    ensures words { λ _. ⌜ now (words .exit) ≡ pick (ltb (length (stands-for book .rules)) (book .limit)) (image (with-rules (stands-for book) (changed (stands-for book .rules) (lays (meant rule)))) ++ drop (asked (book .limit)) (now (words .entry))) (now (words .entry)) ⌝ }
+    ensures number { λ r. ⌜ r ≡ pick (has-room (stands-for book)) (Some (length (stands-for book .rules))) None ⌝ }
+    ensures words { λ _. ⌜ now (words .exit) ≡ pick (has-room (stands-for book)) (rewritten (now (words .entry)) (stands-for book) (changed (stands-for book .rules) (lays (meant rule)))) (now (words .entry)) ⌝ }
 {
     let number = book.count;
     if number >= book.limit as usize {
@@ -193,8 +192,8 @@ pub fn lay(words: &mut [u64], mut book: Book, rule: Rule) -> Option<u32>
 // is none.
 pub fn lift(words: &mut [u64], mut book: Book, i: u32) -> Option<u32>
     requires { ⌜ Read-from (now words) book ⌝ }
-    ensures number { λ r. ⌜ r ≡ pick (ltb i (length (stands-for book .rules))) (Some i) None ⌝ }
-    ensures words { λ _. ⌜ now (words .exit) ≡ pick (ltb i (length (stands-for book .rules))) (image (with-rules (stands-for book) (changed (stands-for book .rules) (lifts i))) ++ drop (asked (book .limit)) (now (words .entry))) (now (words .entry)) ⌝ }
+    ensures number { λ r. ⌜ r ≡ pick (has-rule (stands-for book) i) (Some i) None ⌝ }
+    ensures words { λ _. ⌜ now (words .exit) ≡ pick (has-rule (stands-for book) i) (rewritten (now (words .entry)) (stands-for book) (changed (stands-for book .rules) (lifts i))) (now (words .entry)) ⌝ }
 {
     let Some(place) = book.place(i) else {
         return None;

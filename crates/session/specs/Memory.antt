@@ -10,12 +10,12 @@ use Rattle.std.specs.declared.option.Option.{Option}
 use Rattle.std.specs.declared.option.Option.the-variants.{Some, None}
 use Rattle.std.specs.declared.result.Result.{Result}
 use Rattle.std.specs.declared.result.Result.the-variants.{Ok, Err}
-use Rattle.raise.specs.Rules.{pick, Rule}
+use Rattle.raise.specs.Rules.{pick}
 use Rattle.raise.specs.Calls.{Call, Answer, Limits, lays, lifts, left-of, next-row, safe, garbled, refused, number, two, turned, changed, answer, answers}
 use Rattle.raise.specs.Promise.{Desk, ran, thin}
 use Rattle.wire.specs.declared.answers.Refusal.{Refusal}
 use Rattle.wire.specs.Meaning.{refusal-number, refusal-place}
-use Rattle.book.specs.Held.{Book, asked, image, book-of, with-rules}
+use Rattle.book.specs.Held.{Book, asked, image, book-of, rewritten}
 
 -- this stage has rates only: take and give
 abbrev pub limited : ℕ → ℕ → Limits
@@ -66,7 +66,7 @@ says-in c (Some b) = answer (limits b) (b .rules) c
 -- an accepted call leaves the book after it, whole, and the words behind it as they were
 abbrev pub next-in : List ℕ → Call → Option Book → List ℕ
 next-in ws c None = ws
-next-in ws c (Some b) = pick (eqb (turned (limits b) (b .rules) c) 0) (image (with-rules b (changed (b .rules) c)) ++ drop (asked (b .limit)) ws) ws
+next-in ws c (Some b) = pick (eqb (turned (limits b) (b .rules) c) 0) (rewritten ws b (changed (b .rules) c)) ws
 
 -- the answer to a call, and the words after it, for any words
 abbrev pub says-words : List ℕ → Call → Answer

@@ -1,15 +1,13 @@
 use mathlib.Core.Path.{_≡_, refl, sym, ap, _∙_}
 use mathlib.Core.Bool.{true, false}
-use mathlib.Core.List.{List, _++_}
-use Prim.Native.Nat.{ℕ, _<_, _≤_}
+use Prim.Native.Nat.{_<_}
 use native.Mathlib.Omega.{arith}
 use lib.Dec.{ltb}
-use lib.ListN.{length, take, drop}
+use lib.ListN.{length, take}
 use Rattle.std.specs.declared.option.Option.the-variants.{Some}
 use Rattle.std.proofs.shelf.Tests.{lt-ltb, le-ltb}
-use Rattle.raise.specs.Rules.{Rule}
 use Rattle.raise.specs.Calls.{changed}
-use Rattle.book.specs.Held.{asked, image, with-rules}
+use Rattle.book.specs.Held.{rewritten}
 use Rattle.book.specs.Meant.{all-meant}
 use Rattle.book.specs.Value.{stands-for}
 use Rattle.book.proofs.Places.{rules-long, rules-push}
@@ -32,5 +30,5 @@ returns c =
     let p = rules-push (b .rules) (b .count) (c .args .rule) l in
     record {
       number = rw t (ap Some (sym m));
-      words = rw t (c .write-book .ensures ∙ ap (λ (rs : List Rule). image (with-rules (stands-for b) rs) ++ drop (asked (b .limit)) (c .args .words .now)) (sym p));
+      words = rw t (c .write-book .ensures ∙ ap (rewritten (c .args .words .now) (stands-for b)) (sym p));
     }

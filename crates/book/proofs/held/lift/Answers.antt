@@ -1,7 +1,7 @@
-use mathlib.Core.Path.{_≡_, refl, sym, ap, _∙_}
+use mathlib.Core.Path.{_≡_, refl, ap, _∙_}
 use mathlib.Core.Bool.{true, false}
 use mathlib.Core.List.{List, _++_}
-use Prim.Native.Nat.{ℕ, suc, _-_, _<_, _≤_}
+use Prim.Native.Nat.{ℕ, suc, _-_, _≤_}
 use native.Mathlib.Omega.{arith}
 use borrow.Rule.Slice.PartMut.{putMid}
 use lib.Dec.{ltb}
@@ -11,7 +11,7 @@ use Rattle.raise.specs.Rules.{Rule}
 use Rattle.raise.specs.Calls.{changed}
 use Rattle.raise.proofs.Picks.{picked, not-picked}
 use Rattle.wire.specs.declared.calls.Rule as declared
-use Rattle.book.specs.Held.{asked, image, with-rules}
+use Rattle.book.specs.Held.{rewritten}
 use Rattle.book.specs.Meant.{all-meant}
 use Rattle.book.specs.Value.{stands-for}
 use Rattle.book.proofs.Places.{rules-long, rules-lifted}
@@ -44,5 +44,5 @@ returns c =
     ap (λ (j : ℕ). take j rs ++ drop (suc j) rs) s in
     record {
       number = rw t refl;
-      words = rw t (c .write-book .ensures ∙ ap (λ (qs : List Rule). image (with-rules (stands-for b) qs) ++ drop (asked (b .limit)) (c .args .words .now)) p);
+      words = rw t (c .write-book .ensures ∙ ap (rewritten (c .args .words .now) (stands-for b)) p);
     }

@@ -1,4 +1,4 @@
-use mathlib.Core.Path.{_≡_, refl, sym, ap, _∙_}
+use mathlib.Core.Path.{_≡_, refl, sym, _∙_}
 use lib.Dec.{leb}
 use Rattle.raise.specs.Rules.{first-losing}
 use Rattle.raise.specs.Calls.{told, row-from}

@@ -1,4 +1,4 @@
-use mathlib.Core.Path.{_≡_, refl, sym, ap, _∙_}
+use mathlib.Core.Path.{_≡_, sym, ap, _∙_}
 use lib.Dec.{leb}
 use Rattle.raise.specs.Rules.{safe-from}
 use Rattle.raise.specs.Calls.{number, told}
