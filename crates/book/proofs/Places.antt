@@ -42,7 +42,7 @@ drop-slots f w h (x ∷ xs) ys (suc k) d l =
     ap (λ (t : List ℕ). drop (w * k) (drop w t)) (append-assoc (f x) (joined f xs) ys) ∙
     ap (drop (w * k)) (drop-at (f x) (joined f xs ++ ys) w (h x)) ∙ drop-slots f w h xs ys k d (omega arith)
 
-pub slot-long : (r : Rule) → length (slot r) ≡ width
+slot-long : (r : Rule) → length (slot r) ≡ width
 slot-long (takes a b r) = refl
 slot-long (gives a b r) = refl
 slot-long (takes-sum a b s) = refl
@@ -54,7 +54,7 @@ slots-long rs = joined-long slot width slot-long rs
 
 -- ---- rules in range
 
-pub fine-at : (rs : List Rule) (k : ℕ) (d : Rule) → all-fine rs ≡ true → k < length rs → fine (getD rs k d) ≡ true
+fine-at : (rs : List Rule) (k : ℕ) (d : Rule) → all-fine rs ≡ true → k < length rs → fine (getD rs k d) ≡ true
 unfolding all-fine
 fine-at [] k d e l = absurd (omega arith)
 fine-at (r ∷ rs) zero d e l = and-parts (fine r) (all-fine rs) e .0

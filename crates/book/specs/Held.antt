@@ -2,7 +2,7 @@
 --
 -- The front of the words: a tag that says that an opened book of this format is here, the limit of rules, the bound, and how
 -- many rules there are. Then a slot for each rule up to the limit: the number of its kind and its three numbers. The rest of the
--- words that a book asks for is scratch, for tables that a question writes. Unused slots and scratch are zero after each call
+-- words that a book asks for is scratch, kept for tables that a question needs. Unused slots and scratch are zero after each call
 -- that was accepted, so that equal books then have equal words.
 use mathlib.Core.Path.{_≡_}
 use mathlib.Core.Bool.{Bool, true, _&&_}
@@ -25,6 +25,14 @@ pub record Book : Type 0 where
 -- the book with other rules
 abbrev pub with-rules : Book → List Rule → Book
 with-rules b rs = record { limit = b .limit; bound = b .bound; rules = rs }
+
+-- is there room for one rule more
+abbrev pub has-room : Book → Bool
+has-room b = ltb (length (b .rules)) (b .limit)
+
+-- is there an i-th rule
+abbrev pub has-rule : Book → ℕ → Bool
+has-rule b i = ltb i (length (b .rules))
 
 -- how many words a book with a limit of n rules asks for
 abbrev pub asked : ℕ → ℕ
@@ -59,12 +67,6 @@ image b = (head-words (b .limit) (b .bound) (length (b .rules)) ++ joined slot (
 -- the words after its rules were changed: the book with the new ones, and what is behind it as it was
 abbrev pub rewritten : List ℕ → Book → List Rule → List ℕ
 rewritten ws b rs = image (with-rules b rs) ++ drop (asked (b .limit)) ws
-
-abbrev pub has-room : Book → Bool
-has-room b = ltb (length (b .rules)) (b .limit)
-
-abbrev pub has-rule : Book → ℕ → Bool
-has-rule b i = ltb i (length (b .rules))
 
 -- ---- the book that words hold, if they hold one
 

@@ -1,5 +1,6 @@
 // The layout: a front of four words, a slot for each rule up to the limit, and scratch.
 ghost use mathlib.Core.Path.{_≡_};
+ghost use mathlib.Core.Bool.{true};
 ghost use mathlib.Core.List.{_++_, []};
 ghost use Prim.Native.Nat.{_+_, _*_, _≤_, _<_};
 ghost use lib.Dec.{ltb};
@@ -7,7 +8,7 @@ ghost use lib.ListN.{length, drop, getD};
 ghost use Rattle.std.specs.shelf.Maps.{nth};
 ghost use Rattle.std.specs.declared.option.Option.the-variants.{Some, None};
 ghost use Rattle.raise.specs.Rules.{pick};
-ghost use Rattle.raise.specs.Calls.{lays, lifts, changed};
+ghost use Rattle.raise.specs.Calls.{lays, lifts, changed, fine as fine-rule};
 ghost use Rattle.wire.specs.Meaning.{meant};
 ghost use Rattle.book.specs.Held.{asked, width, head-fine, image, rules-of, book-of, rewritten, has-room, has-rule, Reads-back, Holds-good, Images-differ};
 ghost use Rattle.book.specs.Meant.{all-meant, meant-if, first-meant};
@@ -124,6 +125,7 @@ pub fn write_book(words: &mut [u64], book: &Book)
 // A book without rules, in the first words; the words beyond stay.
 pub fn open_empty(words: &mut [u64], limit: u32, bound: u32)
     requires few { ⌜ limit ≤ 64 ⌝ }
+    requires low { ⌜ bound ≤ 1000000000 ⌝ }
     requires long { ⌜ asked limit ≤ length (now words) ⌝ }
     ensures { λ _. ⌜ now (words .exit) ≡ image (record { limit = limit; bound = bound; rules = [] }) ++ drop (asked limit) (now (words .entry)) ⌝ }
 {
@@ -174,7 +176,8 @@ impl Book {
 
 // One rule more, as the last: its number, if there is room for it. Nothing is written where there is none.
 pub fn lay(words: &mut [u64], mut book: Book, rule: Rule) -> Option<u32>
-    requires { ⌜ Read-from (now words) book ⌝ }
+    requires book { ⌜ Read-from (now words) book ⌝ }
+    requires fine { ⌜ fine-rule (meant rule) ≡ true ⌝ }
     ensures number { λ r. ⌜ r ≡ pick (has-room (stands-for book)) (Some (length (stands-for book .rules))) None ⌝ }
     ensures words { λ _. ⌜ now (words .exit) ≡ pick (has-room (stands-for book)) (rewritten (now (words .entry)) (stands-for book) (changed (stands-for book .rules) (lays (meant rule)))) (now (words .entry)) ⌝ }
 {

@@ -1,4 +1,5 @@
 // Rules of every kind, laid into their slots, read from them, and lifted.
+use book::is_fine;
 use book::lay;
 use book::lift;
 use book::open_empty;
@@ -21,6 +22,9 @@ fn numbers(rule: Rule) -> [u32; 4] {
 fn lay_kind(words: &mut [u64], kind: u8, number: Option<u32>) -> Result<(), Fail> {
     let book = read_book(words).ok_or("no book")?;
     let rule = rule_of_kind(kind, 10, 20, 30);
+    if !is_fine(rule) {
+        return Err(Fail::new("out of range"));
+    }
     check_eq(lay(words, book, rule), number)
 }
 

@@ -28,7 +28,7 @@ fn less_from(rules: &[Rule], bound: u32, gross: u32, from: u32) -> bool
     false
 }
 
-// Is less left of a larger earning? Below the highest bound the next earning fits.
+// Is less left of a larger earning? Up to the highest bound the next earning fits.
 fn loses(rules: &[Rule], bound: u32, gross: u32) -> bool
     requires within { ⌜ Within (all-meant (now rules)) ⌝ }
     requires low { ⌜ bound ≤ 1000000000 ⌝ }

@@ -1,4 +1,4 @@
--- A book without rules: what is earned is what is left, nobody loses, and the next unit is always safe.
+-- A book without rules: what is earned is what is left, nobody loses, and the next unit is safe, up to the bound.
 use mathlib.Core.Path.{_≡_, refl, sym, ap, _∙_}
 use mathlib.Core.Bool.{Bool, true, false, not, _&&_}
 use mathlib.Core.Logic.{inl, inr}
@@ -6,26 +6,25 @@ use mathlib.Core.List.{List, [], _∷_, map}
 use Prim.Native.Nat.{ℕ, zero, suc, _+_, _*_, _-_, _<_, _≤_}
 use native.Mathlib.Omega.{arith}
 use lib.Dec.{ltb, leb, eqb}
-use Rattle.std.proofs.shelf.Tests.{le-ltb, lt-ltb, or-from, and-from, and-left, and-parts, both-ways, not-true, not-from-false, cases-bool}
+use Rattle.std.proofs.shelf.Tests.{le-ltb, lt-ltb, or-from, and-from, and-left, and-parts, not-true, cases-bool}
 use Rattle.std.proofs.shelf.Ways.{tells}
 use Rattle.raise.specs.Rules.{pick, Rule, all-plus, all-minus, less-left, some-less, loses, first-that, all-as-much, safe-from}
 use Rattle.raise.specs.Calls.{Call, Answer, Limits, lays, lifts, left-of, next-row, safe, garbled, turned, place, changed, after, told, row-from, answer, answers}
-use Rattle.session.specs.Memory.{limits, empty, is-lay, lays-nothing, plain, no-kinds, Plain, As-before}
+use Rattle.raise.proofs.Search.{not-less}
+use Rattle.session.specs.Memory.{limits, empty, lays-one, lays-nothing, plain, no-kinds, Plain, Nothing-laid}
 use Rattle.session.proofs.Runs.{told-opened}
 
-not-less : (g h : ℕ) → g ≤ h → less-left [] g h ≡ false
+never-less : (g h : ℕ) → g ≤ h → less-left [] g h ≡ false
 unfolding all-plus all-minus
-not-less g h l = le-ltb (10000 * h + 0) (10000 * g + 0) (omega arith)
+never-less g h l = le-ltb (10000 * h + 0) (10000 * g + 0) (omega arith)
 
 none-less : (g n h : ℕ) → g ≤ h → some-less [] g n h ≡ false
 unfolding some-less
 none-less g zero h l = refl
-none-less g (suc n) h l = or-from (less-left [] g h) (some-less [] g n (suc h)) (not-less g h l) (none-less g n (suc h) (omega arith))
+none-less g (suc n) h l = or-from (less-left [] g h) (some-less [] g n (suc h)) (never-less g h l) (none-less g n (suc h) (omega arith))
 
 as-much : (g n h : ℕ) → g ≤ h → all-as-much [] g n h ≡ true
-unfolding all-as-much
-as-much g zero h l = refl
-as-much g (suc n) h l = and-from (not (less-left [] g h)) (all-as-much [] g n (suc h)) (not-from-false (less-left [] g h) (not-less g h l)) (as-much g n (suc h) (omega arith))
+as-much g n h l = not-less [] g n h ∙ ap not (none-less g n h l)
 
 none-loses : (b n g : ℕ) → first-that (loses [] b) n g ≡ 0
 unfolding first-that
@@ -65,9 +64,9 @@ same false = refl
 
 -- ---- the answers, by whatever kinds there are
 
-pub plain-answer : (l : Limits) (c : Call) → is-lay c ≡ false → answer l [] c ≡ plain (l .bound) c
+plain-answer : (l : Limits) (c : Call) → lays-one (l .rules-can) c ≡ false → answer l [] c ≡ plain (l .bound) c
 unfolding turned place told row-from all-plus all-minus
-plain-answer l (lays r) e = absurd (both-ways true e refl)
+plain-answer l (lays r) e = rw e refl
 plain-answer l (lifts i) e = rw (le-ltb i 0 (omega arith)) refl
 plain-answer l (left-of g) e = elim (cases-bool (leb g (l .bound))) [ inl t ↦ rw t refl | inr t ↦ rw t refl ]
 plain-answer l (next-row g) e = elim (cases-bool (leb g (l .bound))) [ inl t ↦ rw (t, none-loses (l .bound) (suc (l .bound) - g) g) refl | inr t ↦ rw t refl ]
@@ -82,45 +81,40 @@ plain-answer l (safe g) e =
 plain-answer l (garbled n) e = refl
 
 -- and none of these calls lays a rule
-plain-after : (l : Limits) (c : Call) → is-lay c ≡ false → after l [] c ≡ []
+plain-after : (l : Limits) (c : Call) → lays-one (l .rules-can) c ≡ false → after l [] c ≡ []
 unfolding turned changed
-plain-after l (lays r) e = absurd (both-ways true e refl)
+plain-after l (lays r) e = rw e refl
 plain-after l (lifts i) e = rw (le-ltb i 0 (omega arith)) refl
 plain-after l (left-of g) e = same (eqb (turned l [] (left-of g)) 0)
 plain-after l (next-row g) e = same (eqb (turned l [] (next-row g)) 0)
 plain-after l (safe g) e = same (eqb (turned l [] (safe g)) 0)
 plain-after l (garbled n) e = refl
 
-pub plain-answers : (l : Limits) (cs : List Call) → lays-nothing cs ≡ true → answers l [] cs ≡ map (plain (l .bound)) cs
+plain-answers : (l : Limits) (cs : List Call) → lays-nothing (l .rules-can) cs ≡ true → answers l [] cs ≡ map (plain (l .bound)) cs
 unfolding answers lays-nothing
 plain-answers l [] e = refl
 plain-answers l (c ∷ cs) e =
-    let p = and-parts (not (is-lay c)) (lays-nothing cs) e in
-    let n : is-lay c ≡ false = not-true (is-lay c) (p .0) in
+    let p = and-parts (not (lays-one (l .rules-can) c)) (lays-nothing (l .rules-can) cs) e in
+    let n : lays-one (l .rules-can) c ≡ false = not-true (lays-one (l .rules-can) c) (p .0) in
     ap (λ (a : Answer). a ∷ answers l (after l [] c) cs) (plain-answer l c n) ∙ ap (λ (rs : List Rule). plain (l .bound) c ∷ answers l rs cs) (plain-after l c n) ∙
     ap (λ (xs : List Answer). plain (l .bound) c ∷ xs) (plain-answers l cs (p .1))
 
--- ---- where no kind can be done, nothing is ever laid
+-- where no kind can be done, nothing is ever laid
+never-lays : (c : Call) → lays-one no-kinds c ≡ false
+never-lays (lays r) = refl
+never-lays (lifts i) = refl
+never-lays (left-of g) = refl
+never-lays (next-row g) = refl
+never-lays (safe g) = refl
+never-lays (garbled n) = refl
 
-abbrev without : ℕ → ℕ → Limits
-without n b = record { rules-can = no-kinds; rules = n; bound = b }
-
-never-laid : (n b : ℕ) (c : Call) → (answer (without n b) [] c ≡ plain b c) × (after (without n b) [] c ≡ [])
-unfolding turned place
-never-laid n b (lays r) = (refl, refl)
-never-laid n b (lifts i) = (plain-answer (without n b) (lifts i) refl, plain-after (without n b) (lifts i) refl)
-never-laid n b (left-of g) = (plain-answer (without n b) (left-of g) refl, plain-after (without n b) (left-of g) refl)
-never-laid n b (next-row g) = (plain-answer (without n b) (next-row g) refl, plain-after (without n b) (next-row g) refl)
-never-laid n b (safe g) = (plain-answer (without n b) (safe g) refl, plain-after (without n b) (safe g) refl)
-never-laid n b (garbled k) = (refl, refl)
+never-laid : (cs : List Call) → lays-nothing no-kinds cs ≡ true
+unfolding lays-nothing
+never-laid [] = refl
+never-laid (c ∷ cs) = rw (never-lays c) (never-laid cs)
 
 pub all-plain : Plain
-unfolding answers
-all-plain n b [] = refl
-all-plain n b (c ∷ cs) =
-    let p = never-laid n b c in
-    ap (λ (a : Answer). a ∷ answers (without n b) (after (without n b) [] c) cs) (p .0) ∙ ap (λ (rs : List Rule). plain b c ∷ answers (without n b) rs cs) (p .1) ∙
-    ap (λ (xs : List Answer). plain b c ∷ xs) (all-plain n b cs)
+all-plain n b cs = plain-answers (record { rules-can = no-kinds; rules = n; bound = b }) cs (never-laid cs)
 
-pub as-before : As-before
-as-before ws l cs a e = told-opened ws l cs a ∙ plain-answers (limits (empty l)) cs e ∙ sym (all-plain (l .rules) (l .bound) cs)
+pub nothing-laid : Nothing-laid
+nothing-laid ws l cs a e = told-opened ws l cs a ∙ plain-answers (limits (empty l)) cs e ∙ sym (all-plain (l .rules) (l .bound) cs)

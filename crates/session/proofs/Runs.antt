@@ -29,7 +29,7 @@ book-after b c = with-rules b (after (limits b) (b .rules) c)
 abbrev pub book-ran : Book → List Call → Book
 book-ran b cs = with-rules b (ran (limits b) (b .rules) cs)
 
-pub next-behind : (b : Book) (ys : List ℕ) (c : Call) → Good b → next-words (image b ++ ys) c ≡ image (book-after b c) ++ ys
+next-behind : (b : Book) (ys : List ℕ) (c : Call) → Good b → next-words (image b ++ ys) c ≡ image (book-after b c) ++ ys
 next-behind b ys c g =
     let d : drop (asked (b .limit)) (image b ++ ys) ≡ ys = drop-at (image b) ys (asked (b .limit)) (image-long b g) in
     ap (next-in (image b ++ ys) c) (image-reads b ys g) ∙
@@ -83,7 +83,7 @@ unfolding left-words ran
 left-behind b ys [] g = refl
 left-behind b ys (c ∷ cs) g = ap (λ (ws : List ℕ). left-words ws cs) (next-behind b ys c g) ∙ left-behind (book-after b c) ys cs (good-after b c g)
 
-pub told-behind : (b : Book) (ys : List ℕ) (cs : List Call) → Good b → told-words (image b ++ ys) cs ≡ answers (limits b) (b .rules) cs
+told-behind : (b : Book) (ys : List ℕ) (cs : List Call) → Good b → told-words (image b ++ ys) cs ≡ answers (limits b) (b .rules) cs
 unfolding told-words answers
 told-behind b ys [] g = refl
 told-behind b ys (c ∷ cs) g =

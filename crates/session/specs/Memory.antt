@@ -11,7 +11,7 @@ use Rattle.std.specs.declared.option.Option.the-variants.{Some, None}
 use Rattle.std.specs.declared.result.Result.{Result}
 use Rattle.std.specs.declared.result.Result.the-variants.{Ok, Err}
 use Rattle.raise.specs.Rules.{pick}
-use Rattle.raise.specs.Calls.{Call, Answer, Limits, lays, lifts, left-of, next-row, safe, garbled, refused, number, two, turned, changed, answer, answers}
+use Rattle.raise.specs.Calls.{Call, Answer, Limits, lays, lifts, left-of, next-row, safe, garbled, refused, number, two, rule-number, fine, turned, changed, answer, answers}
 use Rattle.raise.specs.Promise.{Desk, ran, thin}
 use Rattle.wire.specs.declared.answers.Refusal.{Refusal}
 use Rattle.wire.specs.Meaning.{refusal-number, refusal-place}
@@ -120,22 +120,23 @@ Suffices l ws a = l .rules ≤ 64 → l .bound ≤ 1000000000 → 64 * l .rules 
 
 -- ---- books without rules
 
-abbrev pub is-lay : Call → Bool
-is-lay (lays r) = true
-is-lay (lifts i) = false
-is-lay (left-of g) = false
-is-lay (next-row g) = false
-is-lay (safe g) = false
-is-lay (garbled n) = false
+-- does a call lay a rule in range, of a kind that can be done
+abbrev pub lays-one : (ℕ → Bool) → Call → Bool
+lays-one can (lays r) = can (rule-number r) && fine r
+lays-one can (lifts i) = false
+lays-one can (left-of g) = false
+lays-one can (next-row g) = false
+lays-one can (safe g) = false
+lays-one can (garbled n) = false
 
-unfoldable pub lays-nothing : List Call → Bool
-lays-nothing [] = true
-lays-nothing (c ∷ cs) = not (is-lay c) && lays-nothing cs
+unfoldable pub lays-nothing : (ℕ → Bool) → List Call → Bool
+lays-nothing can [] = true
+lays-nothing can (c ∷ cs) = not (lays-one can c) && lays-nothing can cs
 
 abbrev pub in-bound : ℕ → ℕ → Answer → Answer
 in-bound b g a = pick (leb g b) a (refused 2 0)
 
--- what is answered up to a bound where no rule is laid nor can be, in plain words: there is none to lift; all that is earned is left;
+-- what is answered up to a bound where no rule is laid, in plain words: there is none to lift; all that is earned is left;
 -- nobody loses; the next unit is safe, unless it lies above the bound
 abbrev pub plain : ℕ → Call → Answer
 plain b (lays r) = refused 2 0
@@ -152,8 +153,8 @@ no-kinds k = false
 abbrev pub Plain : Type 0
 Plain = (n b : ℕ) (cs : List Call) → answers (record { rules-can = no-kinds; rules = n; bound = b }) [] cs ≡ map (plain b) cs
 
--- and so does this stage, to every list of calls that lays nothing
-abbrev pub As-before : Type 0
-As-before =
-    (ws : List ℕ) (l : Limits) (cs : List Call) → opening ws l ≡ number 0 → lays-nothing cs ≡ true →
+-- and so does this stage, to every list of calls that lays nothing, whatever else it asks and however it asks to lay
+abbrev pub Nothing-laid : Type 0
+Nothing-laid =
+    (ws : List ℕ) (l : Limits) (cs : List Call) → opening ws l ≡ number 0 → lays-nothing thin cs ≡ true →
     told-words (open-words ws l) cs ≡ answers (record { rules-can = no-kinds; rules = l .rules; bound = l .bound }) [] cs

@@ -13,7 +13,7 @@ ghost use Rattle.raise.specs.Promise.{thin, Right, Refusal-keeps, Enough-memory
 ghost use Rattle.wire.specs.Meaning.{says};
 ghost use Rattle.wire.specs.CallBytes.{call-of};
 ghost use Rattle.book.specs.Held.{asked};
-ghost use Rattle.session.specs.Memory.{limited, said-open, opening, open-words, Opened, Suffices, Plain, As-before, says-words, next-words, desk};
+ghost use Rattle.session.specs.Memory.{limited, said-open, opening, open-words, Opened, Suffices, Plain, Nothing-laid, says-words, next-words, desk};
 ghost use Rattle.session.specs.Bytes.{says-bytes, next-bytes, if-room, Right-bytes, Read-back-bytes, Refusal-keeps-bytes, Enough-memory-bytes};
 use book::open_empty;
 use book::words_asked;
@@ -85,7 +85,7 @@ pub fn call(words: &mut [u64], bytes: &[u8]) -> Answer
     ensures keeps { λ _. ⌜ Refusal-keeps thin desk ⌝ }
     ensures enough { λ _. ⌜ Enough-memory desk ⌝ }
     ensures plain { λ _. ⌜ Plain ⌝ }
-    ensures before { λ _. ⌜ As-before ⌝ }
+    ensures unlaid { λ _. ⌜ Nothing-laid ⌝ }
 {
     read_and_reply(words, bytes)
 }

@@ -96,7 +96,7 @@ fn row_answer(row: Option<LosingRange>) -> Answer
     ensures { λ r. ⌜ says r ≡ row-told row ⌝ }
 {
     match row {
-        Some(row) => Answer::Two(u64::from(row.first) + 1, u64::from(row.last) + 1),
+        Some(row) => Answer::Two(row.first as u64 + 1, row.last as u64 + 1),
         None => Answer::Two(0, 0),
     }
 }
@@ -119,7 +119,7 @@ fn place_answer(place: Option<u32>) -> Answer
     ensures { λ r. ⌜ says r ≡ number (place-told place) ⌝ }
 {
     match place {
-        Some(place) => Answer::Number(u64::from(place) + 1),
+        Some(place) => Answer::Number(place as u64 + 1),
         None => Answer::Number(0),
     }
 }

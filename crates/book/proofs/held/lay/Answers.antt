@@ -16,7 +16,7 @@ use Rattle.book.proofs.held.lay.Needs as need
 pub returns-then-number-book : need.returns-then-number-book
 returns-then-number-book c =
     let b = c .args .book in
-    let m = rules-long (b .rules) (b .count) (omega (arith, c .pre .sized .few, c .pre .sized .room)) in
+    let m = rules-long (b .rules) (b .count) (omega (arith, c .pre .book .sized .few, c .pre .book .sized .room)) in
     let t : ltb (length (all-meant (take (b .count) (b .rules)))) (b .limit) ≡ false = le-ltb _ (b .limit) (omega arith) in
     record { number = rw t refl; words = rw t refl }
 
@@ -24,7 +24,7 @@ pub returns : need.returns
 unfolding changed
 returns c =
     let b = c .args .book in
-    let l : b .count < length (b .rules) = omega (arith, c .pre .sized .few, c .pre .sized .room) in
+    let l : b .count < length (b .rules) = omega (arith, c .pre .book .sized .few, c .pre .book .sized .room) in
     let m = rules-long (b .rules) (b .count) (omega arith) in
     let t : ltb (length (all-meant (take (b .count) (b .rules)))) (b .limit) ≡ true = lt-ltb _ (b .limit) (omega arith) in
     let p = rules-push (b .rules) (b .count) (c .args .rule) l in
