@@ -1,4 +1,4 @@
-// Calls as bytes, and what they must answer.
+// Calls as bytes, and tables of what they must answer.
 use session::call;
 use session::open;
 use std::test::*;
@@ -6,6 +6,9 @@ use wire::Answer;
 use wire::Refusal;
 
 pub const MOST: u32 = 1_000_000_000;
+
+// Words for 64 rules, and four more.
+pub const WORDS: usize = 2116;
 
 pub const TAKE: u8 = 0;
 
@@ -25,15 +28,10 @@ pub const ROW: u8 = 3;
 
 pub const SAFE: u8 = 4;
 
-pub fn says(words: &mut [u64], bytes: &[u8], answer: Answer) -> Result<(), Fail> {
-    check_eq(call(words, bytes).to_bytes(), answer.to_bytes())
-}
-
-// A call that is turned away leaves every word as it was.
-pub fn refuses(words: &mut [u64; 2116], bytes: &[u8], refusal: Refusal) -> Result<(), Fail> {
-    let before = *words;
-    says(words, bytes, Answer::Refused(refusal))?;
-    check_eq(*words, before)
+pub fn opened(rules: u32, bound: u32) -> Result<[u64; WORDS], Fail> {
+    let mut words = [7u64; WORDS];
+    open(&mut words, rules, bound).ok().ok_or("not opened")?;
+    Ok(words)
 }
 
 pub fn lay(kind: u8, from: u32, second: u32, last: u32) -> [u8; 14] {
@@ -63,9 +61,56 @@ pub fn ask(kind: u8, value: u32) -> [u8; 5] {
     [kind, v[0], v[1], v[2], v[3]]
 }
 
-// Words for 64 rules and four more, with a book in them.
-pub fn opened(rules: u32, bound: u32) -> Result<[u64; 2116], Fail> {
-    let mut words = [7u64; 2116];
-    open(&mut words, rules, bound).ok().ok_or("not opened")?;
-    Ok(words)
+pub fn says(words: &mut [u64], bytes: &[u8], answer: Answer) -> Result<(), Fail> {
+    check_eq(call(words, bytes).to_bytes(), answer.to_bytes())
+}
+
+// Each call of one field, and its answer.
+pub fn all_say(words: &mut [u64], table: &[(u8, u32, Answer)]) -> Result<(), Fail> {
+    for (kind, value, answer) in table {
+        says(words, &ask(*kind, *value), *answer)?;
+    }
+    Ok(())
+}
+
+// Rules that are laid one behind the other, the first as 0.
+pub fn all_laid(words: &mut [u64], rules: &[(u8, u32, u32, u32)]) -> Result<(), Fail> {
+    for i in 0..rules.len() {
+        let (kind, from, second, last) = rules[i];
+        says(
+            words,
+            &lay(kind, from, second, last),
+            Answer::Number(i as u64),
+        )?;
+    }
+    Ok(())
+}
+
+// A call that is turned away leaves every word as it was.
+pub fn refuses(words: &mut [u64; WORDS], bytes: &[u8], refusal: Refusal) -> Result<(), Fail> {
+    let before = *words;
+    says(words, bytes, Answer::Refused(refusal))?;
+    check_eq(*words, before)
+}
+
+pub fn none_asked(
+    words: &mut [u64; WORDS],
+    calls: &[(u8, u32)],
+    refusal: Refusal,
+) -> Result<(), Fail> {
+    for (kind, value) in calls {
+        refuses(words, &ask(*kind, *value), refusal)?;
+    }
+    Ok(())
+}
+
+pub fn none_laid(
+    words: &mut [u64; WORDS],
+    rules: &[(u8, u32, u32, u32)],
+    refusal: Refusal,
+) -> Result<(), Fail> {
+    for (kind, from, second, last) in rules {
+        refuses(words, &lay(*kind, *from, *second, *last), refusal)?;
+    }
+    Ok(())
 }
