@@ -7,8 +7,8 @@ use wire::Refusal;
 
 pub const MOST: u32 = 1_000_000_000;
 
-// Words for 64 rules, and four more.
-pub const WORDS: usize = 2116;
+// Words for four rules, and four more.
+pub const WORDS: usize = 196;
 
 pub const TAKE: u8 = 0;
 

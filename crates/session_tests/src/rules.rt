@@ -1,5 +1,6 @@
 // Rules are laid and lifted.
 use crate::asking::*;
+use session::open;
 use std::test::*;
 use wire::Answer;
 use wire::Refusal;
@@ -7,7 +8,7 @@ use wire::Refusal;
 // From below to, to at most 1,000,000,000, a rate of at most 20,000; no sums and no fades yet.
 #[test]
 fn in_range() -> Result<(), Fail> {
-    let mut words = opened(64, 5000)?;
+    let mut words = opened(4, 5000)?;
     let not = [
         (TAKE, 9, 9, 5),
         (TAKE, 9, 8, 5),
@@ -31,14 +32,24 @@ fn in_range() -> Result<(), Fail> {
     check_eq(&words[3..14], &slots)
 }
 
-// 64 rules, of which each takes most: amounts have room for all.
+// 64 rules, of which each takes most: amounts have room for all, and one more is refused.
 #[test]
 fn full() -> Result<(), Fail> {
-    let mut words = opened(64, MOST)?;
-    let rule = (TAKE, 0, MOST, 20_000);
-    all_laid(&mut words, &[rule; 64])?;
-    none_laid(&mut words, &[rule], Refusal::BookFull)?;
-    none_laid(&mut words, &[(TAKE, 0, 0, 0)], Refusal::OutOfRange)?;
+    let mut words = [7u64; 2116];
+    open(&mut words, 64, MOST).ok().ok_or("not opened")?;
+    all_laid(&mut words, &[(TAKE, 0, MOST, 20_000); 64])?;
+    let book = words;
+    says(
+        &mut words,
+        &lay(TAKE, 0, MOST, 20_000),
+        Answer::Refused(Refusal::BookFull),
+    )?;
+    says(
+        &mut words,
+        &lay(TAKE, 0, 0, 0),
+        Answer::Refused(Refusal::OutOfRange),
+    )?;
+    check_eq(words, book)?;
     let lifted = [
         (
             LEFT,
@@ -59,7 +70,11 @@ fn full() -> Result<(), Fail> {
         &ask(LEFT, MOST),
         Answer::Two(30_000_000_000_000, 1_260_000_000_000_000),
     )?;
-    none_laid(&mut words, &[rule], Refusal::BookFull)?;
+    says(
+        &mut words,
+        &lay(GIVE, 0, MOST, 1),
+        Answer::Refused(Refusal::BookFull),
+    )?;
     check_eq(&words[2112..], &[7, 7, 7, 7])
 }
 
