@@ -5,36 +5,36 @@ use std::test::*;
 use wire::Answer;
 use wire::Refusal;
 
-pub const MOST: u32 = 1_000_000_000;
+pub(crate) const MOST: u32 = 1_000_000_000;
 
 // Words for four rules, and four more.
-pub const WORDS: usize = 196;
+pub(crate) const WORDS: usize = 196;
 
-pub const TAKE: u8 = 0;
+pub(crate) const TAKE: u8 = 0;
 
-pub const GIVE: u8 = 1;
+pub(crate) const GIVE: u8 = 1;
 
-pub const TAKE_SUM: u8 = 2;
+pub(crate) const TAKE_SUM: u8 = 2;
 
-pub const GIVE_SUM: u8 = 3;
+pub(crate) const GIVE_SUM: u8 = 3;
 
-pub const FADE: u8 = 4;
+pub(crate) const FADE: u8 = 4;
 
-pub const LIFT: u8 = 1;
+pub(crate) const LIFT: u8 = 1;
 
-pub const LEFT: u8 = 2;
+pub(crate) const LEFT: u8 = 2;
 
-pub const ROW: u8 = 3;
+pub(crate) const ROW: u8 = 3;
 
-pub const SAFE: u8 = 4;
+pub(crate) const SAFE: u8 = 4;
 
-pub fn opened(rules: u32, bound: u32) -> Result<[u64; WORDS], Fail> {
+pub(crate) fn opened(rules: u32, bound: u32) -> Result<[u64; WORDS], Fail> {
     let mut words = [7u64; WORDS];
     open(&mut words, rules, bound).ok().ok_or("not opened")?;
     Ok(words)
 }
 
-pub fn lay(kind: u8, from: u32, second: u32, last: u32) -> [u8; 14] {
+pub(crate) fn lay(kind: u8, from: u32, second: u32, last: u32) -> [u8; 14] {
     let a = from.to_le_bytes();
     let b = second.to_le_bytes();
     let c = last.to_le_bytes();
@@ -56,17 +56,17 @@ pub fn lay(kind: u8, from: u32, second: u32, last: u32) -> [u8; 14] {
     ]
 }
 
-pub fn ask(kind: u8, value: u32) -> [u8; 5] {
+pub(crate) fn ask(kind: u8, value: u32) -> [u8; 5] {
     let v = value.to_le_bytes();
     [kind, v[0], v[1], v[2], v[3]]
 }
 
-pub fn says(words: &mut [u64], bytes: &[u8], answer: Answer) -> Result<(), Fail> {
+pub(crate) fn says(words: &mut [u64], bytes: &[u8], answer: Answer) -> Result<(), Fail> {
     check_eq(call(words, bytes).to_bytes(), answer.to_bytes())
 }
 
 // Each call of one field, and its answer.
-pub fn all_say(words: &mut [u64], table: &[(u8, u32, Answer)]) -> Result<(), Fail> {
+pub(crate) fn all_say(words: &mut [u64], table: &[(u8, u32, Answer)]) -> Result<(), Fail> {
     for (kind, value, answer) in table {
         says(words, &ask(*kind, *value), *answer)?;
     }
@@ -74,7 +74,7 @@ pub fn all_say(words: &mut [u64], table: &[(u8, u32, Answer)]) -> Result<(), Fai
 }
 
 // Rules that are laid one behind the other, the first as 0.
-pub fn all_laid(words: &mut [u64], rules: &[(u8, u32, u32, u32)]) -> Result<(), Fail> {
+pub(crate) fn all_laid(words: &mut [u64], rules: &[(u8, u32, u32, u32)]) -> Result<(), Fail> {
     for i in 0..rules.len() {
         let (kind, from, second, last) = rules[i];
         says(
@@ -87,13 +87,17 @@ pub fn all_laid(words: &mut [u64], rules: &[(u8, u32, u32, u32)]) -> Result<(), 
 }
 
 // A call that is turned away leaves every word as it was.
-pub fn refuses(words: &mut [u64; WORDS], bytes: &[u8], refusal: Refusal) -> Result<(), Fail> {
+pub(crate) fn refuses(
+    words: &mut [u64; WORDS],
+    bytes: &[u8],
+    refusal: Refusal,
+) -> Result<(), Fail> {
     let before = *words;
     says(words, bytes, Answer::Refused(refusal))?;
     check_eq(*words, before)
 }
 
-pub fn none_asked(
+pub(crate) fn none_asked(
     words: &mut [u64; WORDS],
     calls: &[(u8, u32)],
     refusal: Refusal,
@@ -104,7 +108,7 @@ pub fn none_asked(
     Ok(())
 }
 
-pub fn none_laid(
+pub(crate) fn none_laid(
     words: &mut [u64; WORDS],
     rules: &[(u8, u32, u32, u32)],
     refusal: Refusal,
