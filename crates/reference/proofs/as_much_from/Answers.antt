@@ -3,4 +3,4 @@ use Rattle.raise.proofs.Search.{not_less}
 use Rattle.reference.proofs.as_much_from.Goals as goal
 
 pub returns : goal.returns
-returns c = ap not c.less-from.ensures ∙ sym (not_less _ _ _ _)
+returns c = ap not c.less_from.ensures ∙ sym (not_less _ _ _ _)

@@ -4,5 +4,5 @@ use Rattle.session.proofs.call.Goals as goal
 
 pub returns : goal.returns
 returns c =
-    let e = c.read-and-reply.ensures in
+    let e = c.read_and_reply.ensures in
     record { said = e.said; words = e.words; right = right; keeps = refusal_keeps; enough = enough_memory; plain = all_plain; unlaid = nothing_laid }

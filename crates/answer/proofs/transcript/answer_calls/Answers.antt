@@ -25,11 +25,11 @@ loop-bytes-preserved c =
     let b : call_of c.in-Some.bytes.now ≡ k = ap call_of e.1 in
     let a : says c.call-answer.result ≡ says_words ws k = c.call-answer.ensures.said ∙ ap (says_words ws) b in
     let w : c.call-answer.new.words ≡ next_words ws k = c.call-answer.ensures.words ∙ ap (next_words ws) b in
-    let q : asks_or c.read-call-asked.result ≡ k = c.read-call-asked.ensures.call ∙ b in
+    let q : asks_or c.read_call-asked.result ≡ k = c.read_call-asked.ensures.call ∙ b in
     let out = string_bytes c.loop-bytes.out in
     let l = line k (says_words ws k) ++ codes "\n" in
-    let o : string_bytes c.write-line.new.out ≡ out ++ l =
-    c.in-ok-write-line.ensures.written ∙ ap (λ (x : List ℕ). out ++ (x ++ codes "\n")) (ap (λ (x : Call). line x (says c.call-answer.result)) q ∙ ap (line k) a) in
+    let o : string_bytes c.write_line.new.out ≡ out ++ l =
+    c.in_ok-write_line.ensures.written ∙ ap (λ (x : List ℕ). out ++ (x ++ codes "\n")) (ap (λ (x : Call). line x (says c.call-answer.result)) q ∙ ap (line k) a) in
     ap (λ (x : List ℕ). x ++ lines_on c.call-answer.new.words c.in-Some.after.now) o ∙
     ap (λ (x : List ℕ). (out ++ l) ++ lines_on x c.in-Some.after.now) w ∙
     ap (λ (x : List ℕ). (out ++ l) ++ lines_on (next_words ws k) x) e.2 ∙
@@ -39,5 +39,5 @@ pub returns : goal.returns
 returns c =
     let ws = c.loop-bytes.words in
     let out = string_bytes c.loop-bytes.out in
-    let z : lines_on ws c.loop-bytes.rest.now ≡ [] = ap (lines_on ws) (nil_from_length c.loop-bytes.rest.now c.in-default.ensures.first) ∙ lines_none ws in
+    let z : lines_on ws c.loop-bytes.rest.now ≡ [] = ap (lines_on ws) (nil_from_length c.loop-bytes.rest.now c.in_default.ensures.first) ∙ lines_none ws in
     sym (append-nil out) ∙ ap (λ (x : List ℕ). out ++ x) (sym z) ∙ c.loop-bytes.invariant

@@ -24,5 +24,5 @@ returns c =
     let p = rules_push b.rules b.count c.args.rule l in
     record {
       number = rw t (ap Some (sym m));
-      words = rw t (c.write-book.ensures ∙ ap (rewritten c.args.words.now (stands_for b)) (sym p));
+      words = rw t (c.write_book.ensures ∙ ap (rewritten c.args.words.now (stands_for b)) (sym p));
     }

@@ -8,12 +8,12 @@ pub loop-i-init : goal.loop-i-init
 unfolding rules_of
 loop-i-init c = (refl, refl)
 
-pub returns-in-default : goal.returns-in-default
-returns-in-default c =
+pub returns-in_default : goal.returns-in_default
+returns-in_default c =
     let ws = c.args.words.now in
     let i = c.loop-i.i in
     let n = length ws - (4 + width * i) in
-    let e : rules_of width (drop 4 ws) (i + 1) ≡ None = rules_step width ws 4 i n (omega (arith, c.requires.long)) ∙ rw (c.loop-i.invariant.0, ← c.in-default.ensures) refl in
+    let e : rules_of width (drop 4 ws) (i + 1) ≡ None = rules_step width ws 4 i n (omega (arith, c.requires.long)) ∙ rw (c.loop-i.invariant.0, ← c.in_default.ensures) refl in
     sym (none_later width (drop 4 ws) (i + 1) (c.args.count - (i + 1)) c.args.count (omega arith) e)
 
 pub loop-i-preserved : goal.loop-i-preserved

@@ -14,8 +14,8 @@ pub loop-i-preserved : goal.loop-i-preserved
 loop-i-preserved c =
     let i = c.loop-i.i in
     let b = c.args.book.now in
-    let es = put_mid 0 (4 - 0) c.args.words.now c.copy-from-slice.new.self in
-    let v = c.copy-from-slice-in-loop-i.new.self in
+    let es = put_mid 0 (4 - 0) c.args.words.now c.copy_from_slice.new.self in
+    let v = c.copy_from_slice-in-loop-i.new.self in
     let rs = all_meant (take i b.rules) in
     let p = head_words b.limit b.bound b.count ++ flat_map slot rs in
     let k = 4 + width * i in
@@ -23,7 +23,7 @@ loop-i-preserved c =
     let n : length p ≡ k = omega (arith, length-append (head_words b.limit b.bound b.count) (flat_map slot rs), slots_long rs, rules_long b.rules i (omega arith)) in
     let s : k + width ≡ 4 + width * (i + 1) = omega arith in
     put_more p es c.loop-i.words v k (k + width) c.loop-i.invariant n (omega arith) ∙
-    ap (λ (x : List ℕ). (p ++ x) ++ drop (k + width) es) (c.copy-from-slice-in-loop-i.ensures.after ∙ c.slot-of.ensures) ∙
+    ap (λ (x : List ℕ). (p ++ x) ++ drop (k + width) es) (c.copy_from_slice-in-loop-i.ensures.after ∙ c.slot_of.ensures) ∙
     ap (λ (x : List ℕ). x ++ drop (k + width) es) (slots_more slot (head_words b.limit b.bound b.count) b.rules i _ l) ∙
     ap (λ (j : ℕ). (head_words b.limit b.bound b.count ++ flat_map slot (all_meant (take (i + 1) b.rules))) ++ drop j es) s
 
@@ -36,16 +36,16 @@ returns c =
     let n = b.count in
     let k = 4 + width * n in
     let a = asked b.limit in
-    let es = put_mid 0 (4 - 0) ws c.copy-from-slice.new.self in
+    let es = put_mid 0 (4 - 0) ws c.copy_from_slice.new.self in
     let rs = all_meant (take n b.rules) in
     let h = head_words b.limit b.bound n ++ flat_map slot rs in
     let i : c.loop-i.i ≡ n = omega arith in
-    let e : c.words-asked.result ≡ a = c.words-asked.ensures.value in
+    let e : c.words_asked.result ≡ a = c.words_asked.ensures.value in
     let m : length rs ≡ n = rules_long b.rules n (omega (arith, c.requires.sized.few, c.requires.sized.room)) in
     let p : us ≡ h ++ drop k es = rw i at c.loop-i.invariant in
     let q : length h ≡ k = omega (arith, length-append (head_words b.limit b.bound n) (flat_map slot rs), slots_long rs) in
     let z : length (take (a - k) (drop k us)) ≡ a - k = length-between us k a (omega (arith, c.requires.long)) in
     rw e (put_more h es us c.fill.new.self k a p q (omega (arith, c.requires.sized.room))) ∙
     ap (λ (x : List ℕ). (h ++ x) ++ drop a es) (c.fill.ensures.after (λ y f. f) ∙ ap (λ (x : ℕ). replicate x 0) (rw e z)) ∙
-    ap (λ (x : List ℕ). (h ++ replicate (a - k) 0) ++ x) (drop-put_mid 0 (4 - 0) ws c.copy-from-slice.new.self a (omega arith) (omega (arith, c.requires.long)) (ap length c.copy-from-slice.ensures.after)) ∙
+    ap (λ (x : List ℕ). (h ++ replicate (a - k) 0) ++ x) (drop-put_mid 0 (4 - 0) ws c.copy_from_slice.new.self a (omega arith) (omega (arith, c.requires.long)) (ap length c.copy_from_slice.ensures.after)) ∙
     ap (λ (x : ℕ). ((head_words b.limit b.bound x ++ flat_map slot rs) ++ replicate (a - (4 + width * x)) 0) ++ drop a ws) (sym m)

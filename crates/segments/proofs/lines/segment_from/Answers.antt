@@ -9,9 +9,9 @@ returns c =
     let rs = all_meant c.args.rules.now in
     let b = c.args.bound in
     let g = c.args.from in
-    let e = sym c.line-from.ensures in
+    let e = sym c.line_from.ensures in
     record {
-      segment = c.line-from.ensures;
+      segment = c.line_from.ensures;
       line = subst (SegmentOf rs b) e (segment_right rs b g c.requires.asked);
       sized = subst Sized e (segment_sized rs b g c.requires.asked c.requires.low c.requires.within);
       covers = segments_cover;

@@ -4,5 +4,5 @@ use Rattle.segments.proofs.slopes.holding_at.Goals as goal
 
 pub returns : goal.returns
 returns c =
-    let h = c.bits-at.ensures in
-    record { here = h; along = λ to g. holding_along (all_meant c.args.rules.now) c.bits-at.result c.args.gross to g h }
+    let h = c.bits_at.ensures in
+    record { here = h; along = λ to g. holding_along (all_meant c.args.rules.now) c.bits_at.result c.args.gross to g h }

@@ -7,6 +7,6 @@ pub returns-in-Take : goal.returns-in-Take
 unfolding rule_number
 returns-in-Take c = grind (arith, nat_tests)
 
-pub returns-in-default : goal.returns-in-default
+pub returns-in_default : goal.returns-in_default
 unfolding rule_number
-returns-in-default c = grind (arith, nat_tests)
+returns-in_default c = grind (arith, nat_tests)

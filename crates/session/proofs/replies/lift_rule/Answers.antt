@@ -6,11 +6,11 @@ use Rattle.book.specs.Value.{stands_for}
 use Rattle.session.proofs.Turns.{not_there, lifted}
 use Rattle.session.proofs.replies.lift_rule.Goals as goal
 
-pub returns-in-default : goal.returns-in-default
-returns-in-default c =
+pub returns-in_default : goal.returns-in_default
+returns-in_default c =
     let i = c.args.i in
     let b = stands_for c.args.book in
-    let e = c.in-default.ensures in
+    let e = c.in_default.ensures in
     let f = not_picked (has_rule b i) i e.number in
     let s = not_there c.args.words.now b i f in
     record { said = sym s.says; words = e.words ∙ rw f (sym s.leaves) }

@@ -7,11 +7,11 @@ use Rattle.book.specs.Value.{stands_for}
 use Rattle.session.proofs.Turns.{asks_safe, above_bound, asked_of}
 use Rattle.session.proofs.replies.tell_safe.Goals as goal
 
-pub returns-in-default : goal.returns-in-default
-returns-in-default c =
+pub returns-in_default : goal.returns-in_default
+returns-in_default c =
     let b = stands_for c.args.book.now in
     let g = c.args.gross in
-    let s = above_bound _ asks_safe c.args.words.now b g (not_picked (leb g b.bound) g c.in-default.ensures) in
+    let s = above_bound _ asks_safe c.args.words.now b g (not_picked (leb g b.bound) g c.in_default.ensures) in
     record { said = sym s.says; words = sym s.leaves }
 
 pub returns : goal.returns
@@ -21,5 +21,5 @@ returns c =
     let g = c.args.gross in
     let p = picked (leb g b.bound) g c.in-Some.gross c.in-Some.ensures in
     let s = asked_of _ asks_safe c.args.words.now b g p.0 in
-    let f : place_told c.safe-from-from.result ≡ safe_from b.rules b.bound g = rw (c.rules.ensures, p.1) at c.safe-from-from.ensures in
-    record { said = c.place-answer.ensures ∙ ap number f ∙ sym s.says; words = c.write-book.ensures ∙ sym s.leaves }
+    let f : place_told c.safe_from-from.result ≡ safe_from b.rules b.bound g = rw (c.rules.ensures, p.1) at c.safe_from-from.ensures in
+    record { said = c.place_answer.ensures ∙ ap number f ∙ sym s.says; words = c.write_book.ensures ∙ sym s.leaves }

@@ -5,8 +5,8 @@ use Rattle.wire.specs.Fields.{number_at}
 use Rattle.wire.proofs.Cuts.{cut_at}
 use Rattle.wire.proofs.files.cut_off.Goals as goal
 
-pub returns-in-default : goal.returns-in-default
-returns-in-default c =
+pub returns-in_default : goal.returns-in_default
+returns-in_default c =
     let bs = c.args.rest.now in
     let l : 0 < length bs = grind (arith, nat_tests) in
     let s : length bs < 4 = grind (arith, nat_tests) in

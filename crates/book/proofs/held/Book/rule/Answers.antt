@@ -6,10 +6,10 @@ use Rattle.book.specs.Value.{stands_for}
 use Rattle.book.proofs.Places.{rule_in, rule_past}
 use Rattle.book.proofs.held.Book.rule.Goals as goal
 
-pub returns-in-default : goal.returns-in-default
-returns-in-default c =
+pub returns-in_default : goal.returns-in_default
+returns-in_default c =
     let b = c.args.self.now in
-    let l = ltb-false c.args.i b.count (not_picked (ltb c.args.i b.count) c.args.i c.in-default.ensures) in
+    let l = ltb-false c.args.i b.count (not_picked (ltb c.args.i b.count) c.args.i c.in_default.ensures) in
     sym (rule_past b.rules b.count c.args.i l)
 
 pub returns : goal.returns

@@ -17,9 +17,9 @@ pub returns : goal.returns
 returns c =
     let ns = c.numbers.result in
     let e = c.numbers.ensures in
-    let p : c.copy-from-slice.new.self ≡ bytes_of 8 (get_or ns 0 0) = c.copy-from-slice.ensures.after ∙ c.to-le-bytes.ensures ∙ sym (bytes_of_8 (get_or ns 0 0)) in
-    let q : c.copy-from-slice-2.new.self ≡ bytes_of 8 (get_or ns 1 0) = c.copy-from-slice-2.ensures.after ∙ c.to-le-bytes-2.ensures ∙ sym (bytes_of_8 (get_or ns 1 0)) in
-    let r : c.copy-from-slice-3.new.self ≡ bytes_of 8 (get_or ns 2 0) = c.copy-from-slice-3.ensures.after ∙ c.to-le-bytes-3.ensures ∙ sym (bytes_of_8 (get_or ns 2 0)) in
+    let p : c.copy_from_slice.new.self ≡ bytes_of 8 (get_or ns 0 0) = c.copy_from_slice.ensures.after ∙ c.to_le_bytes.ensures ∙ sym (bytes_of_8 (get_or ns 0 0)) in
+    let q : c.copy_from_slice-2.new.self ≡ bytes_of 8 (get_or ns 1 0) = c.copy_from_slice-2.ensures.after ∙ c.to_le_bytes-2.ensures ∙ sym (bytes_of_8 (get_or ns 1 0)) in
+    let r : c.copy_from_slice-3.new.self ≡ bytes_of 8 (get_or ns 2 0) = c.copy_from_slice-3.ensures.after ∙ c.to_le_bytes-3.ensures ∙ sym (bytes_of_8 (get_or ns 2 0)) in
     let t : ns ≡ get_or ns 0 0 ∷ (get_or ns 1 0 ∷ (get_or ns 2 0 ∷ [])) = e ∙ all_three (says c.args.self) ∙ ap (λ (x : List ℕ). get_or x 0 0 ∷ (get_or x 1 0 ∷ (get_or x 2 0 ∷ []))) (sym e) in
-    put_three c.copy-from-slice.new.self c.copy-from-slice-2.new.self c.copy-from-slice-3.new.self (ap length (c.copy-from-slice.ensures.after ∙ c.to-le-bytes.ensures)) (ap length (c.copy-from-slice-2.ensures.after ∙ c.to-le-bytes-2.ensures)) ∙
+    put_three c.copy_from_slice.new.self c.copy_from_slice-2.new.self c.copy_from_slice-3.new.self (ap length (c.copy_from_slice.ensures.after ∙ c.to_le_bytes.ensures)) (ap length (c.copy_from_slice-2.ensures.after ∙ c.to_le_bytes-2.ensures)) ∙
     rw (p, q, r) (ap (flat_map (bytes_of 8)) (sym t ∙ e))
