@@ -4,6 +4,7 @@ mod transcript;
 
 use faults::Fault;
 use std::io::Read;
+use std::process::ExitCode;
 use std::{env, fs};
 use transcript::answer_file;
 
@@ -45,10 +46,12 @@ fn run(rt: &HostRuntime) -> Result<(), Fault> {
     }
 }
 
-fn main(rt: HostRuntime) -> Result<(), Fault> {
-    let result = run(&rt);
-    if let Err(fault) = &result {
-        let _ = eprintln!(rt; "answer: {fault}");
+fn main(rt: HostRuntime) -> ExitCode {
+    match run(&rt) {
+        Ok(()) => ExitCode::SUCCESS,
+        Err(fault) => {
+            let _ = eprintln!(rt; "answer: {fault}");
+            ExitCode::FAILURE
+        }
     }
-    result
 }

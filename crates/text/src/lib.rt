@@ -112,7 +112,8 @@ fn append_line(out: &mut String, told: &Line) -> Result<(), AllocError>
     ensures written { OnOk result (string_bytes out.new ≡ string_bytes out.old ++ (line (asks_or told.now.asked) (says told.now.answer) ++ codes "\n")) }
     ensures same { OnErr result (string_bytes out.new ≡ string_bytes out.old) }
 {
-    let text = format!(in out.allocator(); "{told}\n")?;
+    let alloc = *out.allocator();
+    let text = format!(in alloc; "{told}\n")?;
     out.push_str(text.as_str())
 }
 
