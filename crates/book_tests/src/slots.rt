@@ -57,10 +57,10 @@ fn every_kind(rt: HostRuntime) -> Result<(), Fail> {
     lay_kind(&rt, &mut words, 4, Some(4))?;
     lay_kind(&rt, &mut words, 0, None)?;
     count(&rt, &words, 5)?;
-    assert_eq!(rt; &words[4..12], &[0, 10, 20, 30, 1, 10, 20, 30]);
+    assert_eq!(rt; &words[4..12], [0, 10, 20, 30, 1, 10, 20, 30].as_slice());
     assert_eq!(rt;
         &words[12..24],
-        &[2, 10, 20, 30, 3, 10, 20, 30, 4, 10, 20, 30]
+        [2, 10, 20, 30, 3, 10, 20, 30, 4, 10, 20, 30].as_slice()
     );
     holds(&rt, &words, 0, 0)?;
     holds(&rt, &words, 4, 4)?;
@@ -70,7 +70,7 @@ fn every_kind(rt: HostRuntime) -> Result<(), Fail> {
     holds(&rt, &words, 0, 0)?;
     holds(&rt, &words, 1, 2)?;
     holds(&rt, &words, 3, 4)?;
-    assert_eq!(rt; &words[20..24], &[0, 0, 0, 0]);
-    assert_eq!(rt; &words[224..], &[9, 9]);
+    assert_eq!(rt; &words[20..24], [0, 0, 0, 0].as_slice());
+    assert_eq!(rt; &words[224..], [9, 9].as_slice());
     Ok(())
 }

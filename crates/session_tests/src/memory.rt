@@ -1,6 +1,7 @@
 // Words that hold no opened book are refused as they are, and slots may hold any kind of rule.
 use crate::asking::*;
 use std::process::Abort;
+use std::test::Fail;
 use wire::{Answer, Refusal};
 
 // A book of two rules, with one word changed.
@@ -104,7 +105,10 @@ fn by_hand(
     words[6] = slot[2];
     words[7] = slot[3];
     all_say(rt, &mut words, table);
-    assert_eq!(rt; &words[3..8], &[1, slot[0], slot[1], slot[2], slot[3]]);
+    assert_eq!(rt;
+        &words[3..8],
+        [1, slot[0], slot[1], slot[2], slot[3]].as_slice()
+    );
     Ok(())
 }
 

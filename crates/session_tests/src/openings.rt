@@ -38,8 +38,8 @@ fn refused(rt: HostRuntime) -> Result<(), Fail> {
 fn accepted(rt: HostRuntime) -> Result<(), Fail> {
     let mut words = [7u64; 100];
     open(&mut words, 1, MOST).ok().ok_or("not opened")?;
-    assert_eq!(rt; &words[0..4], &[0x626f_6f6b, 1, 1_000_000_000, 0]);
-    assert_eq!(rt; &words[4..96], &[0u64; 92]);
-    assert_eq!(rt; &words[96..], &[7, 7, 7, 7]);
+    assert_eq!(rt; &words[0..4], [0x626f_6f6b, 1, 1_000_000_000, 0].as_slice());
+    assert_eq!(rt; &words[4..96], [0u64; 92].as_slice());
+    assert_eq!(rt; &words[96..], [7, 7, 7, 7].as_slice());
     Ok(())
 }

@@ -2,6 +2,7 @@
 use crate::asking::*;
 use session::serve;
 use std::process::Abort;
+use std::test::Fail;
 use wire::{Answer, Refusal};
 
 // A book of these rules answers so, and no question changes a word of it.
@@ -127,7 +128,7 @@ fn bytes_out(rt: HostRuntime) -> Result<(), Fail> {
     assert_eq!(rt; words, opened(1, 300)?);
     assert_eq!(rt; serve(&mut words, &lay(TAKE, 0, 9, 1), &mut out), 24);
     assert_eq!(rt; &out[0..24], &Answer::Number(0).to_bytes()[0..24]);
-    assert_eq!(rt; &out[24..], &[9, 9]);
+    assert_eq!(rt; &out[24..], [9, 9].as_slice());
     assert_eq!(rt; words[3], 1);
     Ok(())
 }

@@ -2,6 +2,7 @@
 use crate::asking::*;
 use session::open;
 use std::process::Abort;
+use std::test::Fail;
 use wire::{Answer, Refusal};
 
 // From below to, to at most 1,000,000,000, a rate of at most 20,000; no sums and no fades yet.
@@ -29,7 +30,7 @@ fn in_range(rt: HostRuntime) -> Result<(), Fail> {
         &[(TAKE, MOST - 1, MOST, 20_000), (GIVE, 0, 1, 0)],
     );
     let slots = [2, 0, 999_999_999, 1_000_000_000, 20_000, 1, 0, 1, 0, 0, 0];
-    assert_eq!(rt; &words[3..14], &slots);
+    assert_eq!(rt; &words[3..14], slots.as_slice());
     Ok(())
 }
 
@@ -85,7 +86,7 @@ fn full(rt: HostRuntime) -> Result<(), Fail> {
         &lay(GIVE, 0, MOST, 1),
         Answer::Refused(Refusal::BookFull),
     );
-    assert_eq!(rt; &words[2112..], &[7, 7, 7, 7]);
+    assert_eq!(rt; &words[2112..], [7, 7, 7, 7].as_slice());
     Ok(())
 }
 
@@ -125,7 +126,7 @@ fn lifted(rt: &impl Abort, number: u32, left: [u64; 3], out: u64) -> Result<(), 
     );
     assert_eq!(rt; words[3], 3);
     assert_eq!(rt; [words[7], words[11], words[15]], left);
-    assert_eq!(rt; &words[16..20], &[0, 0, 0, 0]);
+    assert_eq!(rt; &words[16..20], [0, 0, 0, 0].as_slice());
     says(rt, &mut words, &ask(LEFT, 1), Answer::Two(10_000, out));
     none_asked(rt, &mut words, &[(LIFT, 3)], Refusal::NoSuchRule);
     Ok(())

@@ -133,7 +133,7 @@ fn a_file_that_ends_inside_a_call(rt: HostRuntime) -> Result<(), Fail> {
     let Some((call, after)) = next_call(&[9, 0, 0, 0, 1, 2]) else {
         return Err(Fail::new("no call"));
     };
-    assert_eq!(rt; call, &[1, 2]);
+    assert_eq!(rt; call, [1, 2].as_slice());
     assert!(rt; after.is_empty());
     Ok(())
 }
