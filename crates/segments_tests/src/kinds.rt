@@ -1,5 +1,6 @@
 // Rules of every kind, and breakpoints at the edges.
 use crate::books::*;
+use std::test::Fail;
 
 #[test]
 fn no_rules(rt: HostRuntime) -> Result<(), Fail> {

@@ -1,6 +1,7 @@
 // As many rules as a book can hold.
 use crate::books::*;
 use std::process::Abort;
+use std::test::Fail;
 
 // Each rule begins and ends at a breakpoint of its own.
 fn lay_apart(rt: &impl Abort, words: &mut [u64]) -> Result<(), Fail> {
