@@ -1,4 +1,6 @@
 // Answers a file of calls: a line for each. The file is named by the first word, or else it is standard input.
+#![tactic(auto)]
+
 mod faults;
 mod transcript;
 

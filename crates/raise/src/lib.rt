@@ -1,6 +1,8 @@
 // Raises: at which earnings somebody loses by earning more. This crate owns the definitions (specs/): rules, what they
 // leave of an earning, who loses, calls and their answers, and the promises. Its functions are the scale of all amounts,
 // the laws of the definitions, and small worked books: what these claim is their contract.
+#![tactic(auto)]
+
 pub mod laws;
 pub mod worked;
 

@@ -1,6 +1,8 @@
 // Row and safe, slowly: loops that try every earning, by the definition itself. This crate owns the slow answers, which are
 // short enough to be checked by eye. Until there are fast ones a session answers by them; after that only tests do, which
 // compare the fast ones with them.
+#![tactic(auto)]
+
 ghost use Rattle.std.specs.Prelude.{◌≡◌, suc, ◌-◌, ◌≤◌, ◌&&◌, nat_lt};
 ghost use Rattle.raise.specs.Rules.{some_less, loses, first_losing, first_not, all_as_much, safe_from};
 ghost use Rattle.raise.specs.Calls.{Limits, row_from};

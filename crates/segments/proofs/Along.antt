@@ -1,5 +1,5 @@
 -- Along a stretch without breakpoints inside the same rules hold.
-use Rattle.std.proofs.Common.{◌≡◌, ℕ, zero, suc, ◌+◌, ◌*◌, ◌/◌, ◌<◌, ◌≤◌, Bool, true, ◌&&◌, ltb, leb, List, [], ◌∷◌, sym, refl, ◌∙◌, arith}
+use Rattle.std.proofs.Common.{◌≡◌, ℕ, zero, suc, ◌+◌, ◌*◌, ◌/◌, ◌<◌, ◌≤◌, true, ◌&&◌, ltb, leb, List, [], ◌∷◌, sym, refl, ◌∙◌, arith}
 use Rattle.raise.specs.Rules.{Rule, takes, gives, takes_sum, gives_sum, fades}
 use Rattle.raise.specs.Net.{breaks, breakpoints, clear, holds}
 use Rattle.raise.proofs.Straight.{Off, off}

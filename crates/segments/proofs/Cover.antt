@@ -1,5 +1,5 @@
 -- The segments of a book, one after the other: they cover every earning up to the bound once, and are few.
-use Rattle.std.proofs.Common.{◌≡◌, ℕ, zero, suc, ◌+◌, ◌*◌, ◌<◌, ◌≤◌, true, false, ◌&&◌, ◌||◌, eqb, ltb, leb, ◌⊎◌, List, [], ◌∷◌, length, sym, refl, ◌∙◌, inl, inr, arith}
+use Rattle.std.proofs.Common.{◌≡◌, ℕ, zero, suc, ◌+◌, ◌*◌, ◌<◌, ◌≤◌, true, false, ◌&&◌, eqb, ltb, leb, List, [], ◌∷◌, length, refl, inl, inr, arith}
 use Rattle.std.specs.List.{AllByRecursion as All}
 use Rattle.std.proofs.lemmas.Bool.{cases_Bool, or_cases, eqb-true, leb-true, leb-false, cases_lt}
 use Rattle.raise.specs.Rules.{pick, Rule, takes, gives, takes_sum, gives_sum, fades}
@@ -8,7 +8,7 @@ use Rattle.raise.proofs.Straight.{net_straight}
 use Rattle.book.specs.Held.{Within}
 use Rattle.segments.specs.declared.lines.Segment.{Segment}
 use Rattle.segments.specs.Points.{next_breakpoint}
-use Rattle.segments.specs.Segments.{segment_at, SegmentOf, Sized, segments_from, segments, how_many_on, Chain, Covers, SegmentsCover}
+use Rattle.segments.specs.Segments.{segment_at, SegmentOf, Sized, segments_from, segments, how_many_on, Chain, SegmentsCover}
 use Rattle.segments.proofs.Paces.{net_small, slope_small}
 use Rattle.segments.proofs.Points.{next_breakpoints}
 

@@ -1,5 +1,5 @@
 -- Which rules hold, bit by bit.
-use Rattle.std.proofs.Common.{◌≡◌, ℕ, zero, suc, ◌+◌, ◌-◌, ◌*◌, ◌/◌, ◌%◌, ◌^◌, ◌<◌, ◌≤◌, Bool, true, false, eqb, List, [], ◌∷◌, ◌++◌, map, length, get_or, take, sym, refl, ap, ◌∙◌, inl, inr, one-mul, pow-suc, add-one, arith, pow-add}
+use Rattle.std.proofs.Common.{◌≡◌, ℕ, ◌+◌, ◌-◌, ◌/◌, ◌%◌, ◌^◌, ◌<◌, ◌≤◌, Bool, true, false, eqb, List, [], ◌∷◌, ◌++◌, map, length, get_or, take, sym, ap, ◌∙◌, inl, inr, one-mul, pow-suc, add-one, arith, pow-add}
 use native.Mathlib.Nat.{mul-mod_left}
 use lib.Bits.{bit_or, or_shr, or_mod, or_zero_r, or_shifted_r, or_lt}
 use lib.Pow.{shl-shr, high}

@@ -1,14 +1,14 @@
 -- The next breakpoint is the least above, and it is found rule by rule.
-use Rattle.std.proofs.Common.{◌≡◌, ℕ, zero, suc, ◌-◌, ◌<◌, ◌≤◌, true, false, ◌&&◌, ◌||◌, eqb, ltb, leb, List, [], ◌∷◌, length, get_or, take, drop, sym, refl, ap, ◌∙◌, inl, inr, arith}
+use Rattle.std.proofs.Common.{◌≡◌, ℕ, zero, suc, ◌-◌, ◌<◌, ◌≤◌, true, ◌&&◌, ◌||◌, eqb, ltb, leb, List, [], ◌∷◌, length, get_or, take, drop, refl, ap, ◌∙◌, inl, inr, arith}
 use Rattle.std.proofs.lemmas.List.{take_rest}
 use Rattle.std.proofs.lemmas.Bool.{cases_Bool, and_parts, and_cases, and_from, or_left, or_right, le-leb, eq-eqb, ltb-true, ltb-false}
-use Rattle.raise.specs.Rules.{pick, Rule, takes, gives, takes_sum, gives_sum, fades}
+use Rattle.raise.specs.Rules.{Rule, takes, gives, takes_sum, gives_sum, fades}
 use Rattle.raise.specs.Net.{breakpoints, clear, among}
 use Rattle.raise.proofs.Look.{narrower}
 use Rattle.wire.specs.declared.calls.Rule as declared
 use Rattle.wire.specs.Meaning.{meant}
 use Rattle.book.specs.Meant.{all_meant}
-use Rattle.segments.specs.Points.{nearer, least_above, next_breakpoint, Next, NextBreakpoints}
+use Rattle.segments.specs.Points.{nearer, least_above, Next, NextBreakpoints}
 use Rattle.segments.specs.Spans.{span, nearest}
 
 -- ---- the least above

@@ -1,5 +1,5 @@
 -- Where a rule holds, as the code has it. Definitions only: nothing is assumed.
-use Rattle.std.specs.Prelude.{ℕ, zero, suc, ◌+◌, ◌*◌, ◌/◌, Bool, true, ◌&&◌, ltb, leb, Some, None, Option}
+use Rattle.std.specs.Prelude.{ℕ, zero, suc, ◌+◌, ◌*◌, ◌/◌, Some, None, Option}
 use Rattle.raise.specs.Rules.{Rule, takes, gives, takes_sum, gives_sum, fades}
 use Rattle.segments.specs.declared.spans.Span.{Span}
 use Rattle.segments.specs.Points.{nearer}

@@ -1,5 +1,7 @@
 // Segments: the stretches between breakpoints, on which net is a straight line. This crate owns the next breakpoint above a
 // gross, the segment from a gross on, and which rules hold on it; it goes through the rules each time and stores nothing.
+#![tactic(auto)]
+
 mod breakpoints;
 mod lines;
 mod slopes;

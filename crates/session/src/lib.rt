@@ -1,6 +1,8 @@
 // The session: a book is opened in lent words, and from then on each call, as bytes, gets its answer. The words are all
 // the state, nothing is allocated, and a call that is turned away changes nothing.
 // Any words and any bytes may be handed in: what cannot serve is refused.
+#![tactic(auto)]
+
 mod replies;
 
 ghost use Rattle.std.specs.Prelude.{◌≡◌, ◌++◌, length, drop, Some, None, nat_le};

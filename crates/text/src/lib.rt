@@ -1,5 +1,7 @@
 // Answers as text: one line for each answer, and amounts in units with four places after the point.
 // This crate owns how they are written; specs/ says it for every call and answer.
+#![tactic(auto)]
+
 ghost use Rattle.std.specs.Prelude.{◌≡◌, ◌++◌, Some, string_bytes, codes, OnErr, OnOk};
 ghost use Rattle.wire.specs.Meaning.{asks_or, says};
 ghost use Rattle.text.specs.Shown.{parted, amount, row_line, safe_line, line, AmountsDiffer};

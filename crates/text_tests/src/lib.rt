@@ -1,3 +1,5 @@
 // Tests of the lines, as tables. They stand in a crate of their own, since a crate with tests is proved twice.
+#![tactic(auto)]
+
 #[cfg(test)]
 mod lines;

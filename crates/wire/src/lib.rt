@@ -1,5 +1,7 @@
 // Calls and answers as bytes. Reading takes any bytes: what is no call is told by the place of its first byte that
 // doesn't fit. This crate owns the formats; specs/ says for every list of bytes what it is.
+#![tactic(auto)]
+
 mod answers;
 mod calls;
 mod files;

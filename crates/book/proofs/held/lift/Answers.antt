@@ -1,7 +1,6 @@
 use Rattle.std.proofs.Common.{◌≡◌, ℕ, suc, ◌-◌, ◌≤◌, true, false, ltb, List, ◌++◌, length, take, drop, refl, ap, ◌∙◌, arith}
 use borrow.Rule.Slice.PartMut.{put_mid}
 use Rattle.std.proofs.lemmas.Bool.{lt-ltb, le-ltb, ltb-true, ltb-false}
-use Rattle.raise.specs.Rules.{Rule}
 use Rattle.raise.specs.Calls.{changed}
 use Rattle.raise.proofs.Picks.{picked, not_picked}
 use Rattle.wire.specs.declared.calls.Rule as declared

@@ -1,4 +1,4 @@
-use Rattle.std.proofs.Common.{◌≡◌, ℕ, ◌<◌, ◌≤◌, length, ap, ◌∙◌, rules}
+use Rattle.std.proofs.Common.{◌<◌, ◌≤◌, length, ap, ◌∙◌, rules}
 use Rattle.segments.specs.declared.spans.Span.{Span}
 use Rattle.segments.specs.Spans.{nearest}
 use Rattle.segments.proofs.Points.{by_no_rule, by_rule}

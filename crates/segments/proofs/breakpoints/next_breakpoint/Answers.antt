@@ -1,4 +1,4 @@
-use Rattle.std.proofs.Common.{◌≡◌, ℕ, suc, ◌+◌, ap, ◌∙◌, arith}
+use Rattle.std.proofs.Common.{◌≡◌, suc, ◌+◌, ap, ◌∙◌, arith}
 use Rattle.raise.specs.Net.{breakpoints}
 use Rattle.book.specs.Meant.{all_meant}
 use Rattle.segments.specs.Points.{least_above}

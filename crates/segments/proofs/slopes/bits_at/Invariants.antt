@@ -1,4 +1,4 @@
-use Rattle.std.proofs.Common.{◌≡◌, ℕ, ◌^◌, ◌<◌, take}
+use Rattle.std.proofs.Common.{◌^◌, ◌<◌, take}
 use Rattle.book.specs.Meant.{all_meant}
 use Rattle.segments.specs.Bits.{Holding}
 use Rattle.segments.proofs.slopes.bits_at.Given as goal
