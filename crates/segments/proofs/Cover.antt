@@ -1,6 +1,6 @@
 -- The segments of a book, one after the other: they cover every earning up to the bound once, and are few.
 use Rattle.std.proofs.Common.{◌≡◌, ℕ, zero, suc, ◌+◌, ◌*◌, ◌<◌, ◌≤◌, true, false, ◌&&◌, eqb, ltb, leb, List, [], ◌∷◌, length, refl, inl, inr, arith}
-use Rattle.std.specs.List.{AllByRecursion as All}
+use Rattle.std.specs.List.{AllByRecursion}
 use Rattle.std.proofs.lemmas.Bool.{cases_Bool, or_cases, eqb-true, leb-true, leb-false, cases_lt}
 use Rattle.raise.specs.Rules.{pick, Rule, takes, gives, takes_sum, gives_sum, fades}
 use Rattle.raise.specs.Net.{breakpoints, among}
@@ -76,7 +76,7 @@ module _ (rs : List Rule) (b : ℕ) where
         | inr u ↦ rw u (omega (arith, leb-false x b u))
       ]
 
-  each : (n x : ℕ) → All (SegmentOf rs b) (segments_from rs b n x)
+  each : (n x : ℕ) → AllByRecursion (SegmentOf rs b) (segments_from rs b n x)
   unfolding segments_from
   each zero x = tt
   each (suc n) x = elim (cases_Bool (leb x b)) [ inl t ↦ rw t (segment_right x (leb-true x b t), each n (next_breakpoint rs b x)) | inr u ↦ rw u tt ]
@@ -88,12 +88,12 @@ module _ (rs : List Rule) (b : ℕ) where
 
   -- ---- each earning lies on one
 
-  forward : (ss : List Segment) (x e : ℕ) → Chain ss x e → All (SegmentOf rs b) ss → x ≤ e
+  forward : (ss : List Segment) (x e : ℕ) → Chain ss x e → AllByRecursion (SegmentOf rs b) ss → x ≤ e
   unfolding Chain
   forward [] x e c a = omega arith
   forward (s ∷ ss) x e c a = omega (arith, c.0, forward ss s.to e c.1 a.1, a.0.ends.above)
 
-  counted : (ss : List Segment) (x e g : ℕ) → Chain ss x e → All (SegmentOf rs b) ss → how_many_on ss g ≡ pick (leb x g && ltb g e) 1 0
+  counted : (ss : List Segment) (x e g : ℕ) → Chain ss x e → AllByRecursion (SegmentOf rs b) ss → how_many_on ss g ≡ pick (leb x g && ltb g e) 1 0
   unfolding Chain how_many_on
   counted [] x e g c a = grind arith
   counted (s ∷ ss) x e g c a =

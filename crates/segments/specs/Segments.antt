@@ -1,6 +1,6 @@
 -- Segments of a book: one by one, and all of them. Definitions only: nothing is assumed.
 use Rattle.std.specs.Prelude.{◌≡◌, ℕ, zero, suc, ◌+◌, ◌*◌, ◌<◌, ◌≤◌, Bool, ◌&&◌, List, [], ◌∷◌, length, nat_le, nat_lt, unsigned_abs}
-use Rattle.std.specs.List.{AllByRecursion as All}
+use Rattle.std.specs.List.{AllByRecursion}
 use Rattle.raise.specs.Rules.{pick, Rule}
 use Rattle.raise.specs.Net.{net, on_line, Straight, breakpoints, slope}
 use Rattle.segments.specs.declared.lines.Segment.{Segment}
@@ -51,7 +51,7 @@ pub record Covers (rs : List Rule) (b : ℕ) (ss : List Segment) : Type 0 where
   pub once : (g : ℕ) → g ≤ b → how_many_on ss g ≡ 1
   pub none_above : (g : ℕ) → b < g → how_many_on ss g ≡ 0
   pub in_order : Chain ss 0 (suc b)
-  pub each : All (SegmentOf rs b) ss
+  pub each : AllByRecursion (SegmentOf rs b) ss
   pub few : length ss ≤ 2 * length rs + 1
 
 abbrev pub SegmentsCover : Type 0

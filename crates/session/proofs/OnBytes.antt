@@ -1,6 +1,6 @@
 -- Whole sessions on bytes, after an accepted opening on any words.
 use Rattle.std.proofs.Common.{◌≡◌, ℕ, zero, suc, ◌<◌, ◌≤◌, true, false, eqb, ltb, List, [], ◌∷◌, ◌++◌, map, length, take, drop, Some, Option, sym, refl, ap, ◌∙◌, inl, inr, arith}
-use Rattle.std.specs.List.{AllByRecursion as All}
+use Rattle.std.specs.List.{AllByRecursion}
 use Rattle.std.proofs.lemmas.List.{take_at, drop_at}
 use Rattle.std.proofs.lemmas.Bool.{cases_Bool, and_from, lt-ltb, ltb-true}
 use Rattle.std.proofs.lemmas.Bool.Decides.{nat_tests}
@@ -99,7 +99,7 @@ answer_sayable b c g f =
       | inr t ↦ rw t (refusal_sayable (limits b) b.rules c f t)
     ]
 
-back_each : (b : Book) (bss : List (List ℕ)) → Good b → All (λ bs. all_below 256 bs ≡ true) bss →
+back_each : (b : Book) (bss : List (List ℕ)) → Good b → AllByRecursion (λ bs. all_below 256 bs ≡ true) bss →
     map answer_of (map answer_bytes (answers (limits b) b.rules (map call_of bss))) ≡ map Some (answers (limits b) b.rules (map call_of bss))
 unfolding answers
 back_each b [] g f = refl

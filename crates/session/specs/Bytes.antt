@@ -1,6 +1,6 @@
 -- The session on bytes: calls come as bytes, answers go as bytes. Nothing is assumed.
 use Rattle.std.specs.Prelude.{◌≡◌, ℕ, ◌+◌, ◌*◌, ◌<◌, ◌≤◌, true, List, [], ◌∷◌, map, length, take, drop, Some, nat_lt}
-use Rattle.std.specs.List.{AllByRecursion as All}
+use Rattle.std.specs.List.{AllByRecursion}
 use Rattle.raise.specs.Rules.{pick}
 use Rattle.raise.specs.Calls.{Limits, number, turned, answers}
 use Rattle.raise.specs.Promise.{ran, all_below, thin}
@@ -39,7 +39,7 @@ RightBytes =
 -- and they are read back as these: no number is cut short
 abbrev pub ReadBackBytes : Type 0
 ReadBackBytes =
-    (ws : List ℕ) (l : Limits) (bss : List (List ℕ)) → l.rules_can ≡ thin → opening ws l ≡ number 0 → All (λ bs. all_below 256 bs ≡ true) bss →
+    (ws : List ℕ) (l : Limits) (bss : List (List ℕ)) → l.rules_can ≡ thin → opening ws l ≡ number 0 → AllByRecursion (λ bs. all_below 256 bs ≡ true) bss →
     map answer_of (told_bytes (open_words ws l) bss) ≡ map Some (answers l [] (map call_of bss))
 
 -- bytes that are turned away change nothing

@@ -1,6 +1,6 @@
 -- A file is cut call by call, and a written file into what was written.
 use Rattle.std.proofs.Common.{◌≡◌, ℕ, zero, suc, ◌<◌, ◌≤◌, List, [], ◌∷◌, ◌++◌, length, take, drop, sym, refl, ap, ◌∙◌, arith}
-use Rattle.std.specs.List.{AllByRecursion as All}
+use Rattle.std.specs.List.{AllByRecursion}
 use Rattle.std.proofs.lemmas.List.{take_at, drop_at, drop-drop, length-append}
 use Rattle.wire.specs.Fields.{bytes_of, number_of, number_at}
 use Rattle.wire.specs.Files.{first_call, after_call, cut, calls_in, records, file_of, CutByCut, FilesReadBack}
@@ -32,7 +32,7 @@ pub cut_step : (bs : List ℕ) → 0 < length bs → calls_in bs ≡ first_call 
 cut_step [] l = absurd (omega arith)
 cut_step (b ∷ bs) l = cut_by_cut b bs
 
-records_back : (cs : List (List ℕ)) → All (λ c. length c < 4294967296) cs → calls_in (records cs) ≡ cs
+records_back : (cs : List (List ℕ)) → AllByRecursion (λ c. length c < 4294967296) cs → calls_in (records cs) ≡ cs
 unfolding cut records
 records_back [] h = refl
 records_back (c ∷ cs) h =

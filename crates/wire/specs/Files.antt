@@ -2,7 +2,7 @@
 -- four bytes, and its bytes. Any bytes are cut into calls: a file that ends inside a call gives what is there of it as the
 -- call, and one that ends inside a length gives an empty call. Nothing is assumed.
 use Rattle.std.specs.Prelude.{◌≡◌, ℕ, zero, suc, ◌<◌, List, [], ◌∷◌, ◌++◌, length, take, drop}
-use Rattle.std.specs.List.{AllByRecursion as All}
+use Rattle.std.specs.List.{AllByRecursion}
 use Rattle.wire.specs.Fields.{bytes_of, number_at}
 
 -- the first call, and what comes after it
@@ -40,5 +40,5 @@ CutByCut = (b : ℕ) (bs : List ℕ) → calls_in (b ∷ bs) ≡ first_call (b �
 -- a file that was written is read as what was written: its limit, its bound and its calls
 abbrev pub FilesReadBack : Type 0
 FilesReadBack =
-    (rules bound : ℕ) (cs : List (List ℕ)) → rules < 4294967296 → bound < 4294967296 → All (λ c. length c < 4294967296) cs →
+    (rules bound : ℕ) (cs : List (List ℕ)) → rules < 4294967296 → bound < 4294967296 → AllByRecursion (λ c. length c < 4294967296) cs →
     (number_at 4 (file_of rules bound cs) 0 ≡ rules) × (number_at 4 (file_of rules bound cs) 4 ≡ bound) × (calls_in (drop 8 (file_of rules bound cs)) ≡ cs)
