@@ -14,9 +14,13 @@ lines [] xs = []
 lines (c ∷ cs) [] = []
 lines (c ∷ cs) (a ∷ xs) = (line c a ++ codes "\n") ++ lines cs xs
 
--- the lines for calls that follow one another in bytes, asked of any words
+-- the lines for the bytes of calls, asked of any words
+abbrev pub lines_for : List ℕ → List (List ℕ) → List ℕ
+lines_for ws css = lines (map call_of css) (told_words ws (map call_of css))
+
+-- the lines for calls that follow one another in bytes
 abbrev pub lines_on : List ℕ → List ℕ → List ℕ
-lines_on ws bs = lines (map call_of (calls_in bs)) (told_words ws (map call_of (calls_in bs)))
+lines_on ws bs = lines_for ws (calls_in bs)
 
 -- a refusal at opening is the only line
 abbrev pub unless_opened : Answer → List ℕ → List ℕ

@@ -12,40 +12,28 @@ use transcript::answer_file;
 
 fn read_input(rt: &HostRuntime) -> Result<Vec<u8>, Fault> {
     let mut bytes = Vec::new(rt.alloc());
-    match rt.stdin().read_to_end(&mut bytes) {
-        Ok(_) => Ok(bytes),
-        Err(why) => Err(Fault::Input(why)),
-    }
+    rt.stdin().read_to_end(&mut bytes).map_err(Fault::Input)?;
+    Ok(bytes)
 }
 
 // The bytes of the file that is named, or else of standard input.
 fn read_calls(rt: &HostRuntime) -> Result<Vec<u8>, Fault> {
-    let mut words = match env::args(rt) {
-        Ok(words) => words,
-        Err(why) => return Err(Fault::Input(why)),
-    };
-    let _ = words.next();
+    let mut words = env::args(rt).map_err(Fault::Input)?.skip(1);
     let Some(name) = words.next() else {
         return read_input(rt);
     };
     if words.next().is_some() {
         return Err(Fault::Usage);
     }
-    match fs::read(rt, name.as_str()) {
-        Ok(bytes) => Ok(bytes),
-        Err(why) => Err(Fault::File(name, why)),
-    }
+    fs::read(rt, &name).map_err(|why| Fault::File { name, why })
 }
 
 fn run(rt: &HostRuntime) -> Result<(), Fault> {
     let file = read_calls(rt)?;
-    let Some(lines) = answer_file(rt.alloc(), file.as_slice())? else {
-        return Err(Fault::Head(file.len()));
+    let Some(lines) = answer_file(rt.alloc(), &file)? else {
+        return Err(Fault::Head { bytes: file.len() });
     };
-    match rt.print(lines) {
-        Ok(()) => Ok(()),
-        Err(why) => Err(Fault::Output(why)),
-    }
+    rt.print(lines).map_err(Fault::Output)
 }
 
 fn main(rt: HostRuntime) -> ExitCode {

@@ -7,21 +7,20 @@ use book::words_asked;
 use session::{call, open};
 use std::alloc::{AllocError, Global};
 use text::{Line, write_line};
-use wire::{Answer, Garbled, Head, next_call, read_call, read_head};
+use wire::{Answer, Calls, Garbled, Head, read_call, read_head};
 
 // The memory that is lent is for so many rules.
 const RULES: u32 = 16;
 
 // A line for each call of what follows the head.
+#[tactic(auto, unfolding(crate::specs::Transcript::lines, session::specs::Memory::told_words))]
 fn answer_calls(words: &mut [u64], calls: &[u8], out: &mut String) -> Result<(), AllocError>
     ensures { OnOk result (string_bytes out.new ≡ string_bytes out.old ++ lines_on words.old calls.now) }
 {
-    let mut rest = calls;
-    while let Some((bytes, after)) = next_call(rest) {
+    for bytes in Calls::new(calls) {
         let answer = call(words, bytes);
         let asked = read_call(bytes);
         write_line(out, &Line { asked, answer })?;
-        rest = after;
     }
     Ok(())
 }
@@ -47,6 +46,7 @@ fn answer_all(
 
 // All lines that answer a file, or none where it ends inside its head. Memory is lent for 16 rules, so that a larger
 // limit is refused at opening.
+#[tactic(auto, using(std::proofs::lemmas::Result::err_from_is_err_and))]
 pub fn answer_file(heap: Global, file: &[u8]) -> Result<Option<String>, AllocError>
     ensures short { length file.now < 8 → result ≡ Ok None }
     ensures text { IfOk result (λ o. MatchOption o (length file.now < 8) (λ text. (8 ≤ length file.now) × (string_bytes text ≡ transcript_of file.now))) }
@@ -56,6 +56,6 @@ pub fn answer_file(heap: Global, file: &[u8]) -> Result<Option<String>, AllocErr
     };
     let mut words = vec![in heap; 0u64; words_asked(RULES)]?;
     let mut out = String::new(heap);
-    answer_all(words.as_mut_slice(), head, &file[8..], &mut out)?;
+    answer_all(&mut words, head, &file[8..], &mut out)?;
     Ok(Some(out))
 }

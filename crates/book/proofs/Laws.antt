@@ -1,7 +1,7 @@
 -- What was written as an image reads back as that book, and what is read is a good book.
-use Rattle.std.proofs.Common.{◌≡◌, ℕ, ◌+◌, ◌-◌, ◌*◌, ◌≤◌, Bool, true, List, [], ◌∷◌, ◌++◌, length, get_or, drop, replicate, Some, None, Option, sym, refl, ap, ◌∙◌, subst, inl, inr, append_assoc, arith}
+use Rattle.std.proofs.Common.{◌≡◌, ℕ, suc, ◌+◌, ◌-◌, ◌*◌, ◌<◌, ◌≤◌, Bool, true, List, [], ◌∷◌, ◌++◌, length, get_or, take, drop, replicate, Some, None, Option, sym, refl, ap, ◌∙◌, subst, inl, inr, append_assoc, arith}
 use Rattle.std.specs.List.{flat_map}
-use Rattle.std.proofs.lemmas.List.{length-append, length-replicate}
+use Rattle.std.proofs.lemmas.List.{length-append, length-replicate, length_push, length-take, length-drop}
 use Rattle.std.proofs.lemmas.Bool.{and_parts, cases_Bool}
 use Rattle.std.proofs.lemmas.Bool.Decides.{nat_tests}
 use Rattle.raise.specs.Rules.{pick, Rule, takes, gives, takes_sum, gives_sum, fades}
@@ -9,8 +9,8 @@ use Rattle.raise.specs.Calls.{rule_number, fine}
 use Rattle.raise.specs.Promise.{all_below}
 use Rattle.raise.proofs.Below.{below_both, below_zeros}
 use Rattle.raise.proofs.Picks.{none_some}
-use Rattle.book.specs.Held.{Book, Good, Within, asked, width, slot, head_words, image, rules_of, opened, head_fine, book_of, all_fine, ReadsBack, HoldsGood, ImagesDiffer}
-use Rattle.book.proofs.Places.{slots_long, slots_back, rules_fine}
+use Rattle.book.specs.Held.{Book, Good, Within, with_rules, asked, width, slot, head_words, image, rules_of, opened, head_fine, book_of, all_fine, ReadsBack, HoldsGood, ImagesDiffer}
+use Rattle.book.proofs.Places.{slots_long, slots_back, rules_fine, fine_push, fine_lifted}
 
 pub image_long : (b : Book) → Good b → length (image b) ≡ asked b.limit
 unfolding image
@@ -63,6 +63,17 @@ images_differ a b g h e =
 -- the rules of a good book are within limits
 pub good_within : (b : Book) → Good b → Within b.rules
 good_within b g = record { few = omega (arith, g.few, g.room); fine = g.fine }
+
+-- ---- a good book stays good
+
+pub good_laid : (b : Book) (r : Rule) → Good b → fine r ≡ true → length b.rules < b.limit → Good (with_rules b (b.rules ++ (r ∷ [])))
+good_laid b r g f l = record { few = g.few; low = g.low; room = omega (arith, length_push b.rules r); fine = fine_push b.rules r g.fine f }
+
+pub good_lifted : (b : Book) (i : ℕ) → Good b → Good (with_rules b (take i b.rules ++ drop (suc i) b.rules))
+good_lifted b i g =
+    let rs = b.rules in
+    let n : length (take i rs ++ drop (suc i) rs) ≤ b.limit = omega (arith, length-append (take i rs) (drop (suc i) rs), length-take i rs, length-drop (suc i) rs, g.room) in
+    record { few = g.few; low = g.low; room = n; fine = fine_lifted rs i g.fine }
 
 -- ---- every word of an image has 64 bits
 

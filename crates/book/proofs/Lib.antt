@@ -1,5 +1,5 @@
 pub mod Sums
-pub mod Signs
 pub mod Places
+pub mod Writes
 pub mod Laws
 pub mod Values

@@ -1,11 +1,8 @@
 -- Rules in slots: what was written reads back, one slot more, and what is left when one is lifted.
-use Rattle.std.proofs.Common.{◌≡◌, ℕ, zero, suc, ◌+◌, ◌-◌, ◌*◌, ◌<◌, ◌≤◌, Bool, true, ◌&&◌, leb, List, [], ◌∷◌, ◌++◌, map, length, get_or, take, drop, set, Some, None, Option, sym, refl, ap, ◌∙◌, inl, inr, append_assoc, arith}
-use borrow.Rule.Slice.PartMut.{put_mid}
-use Rattle.std.specs.List.{flat_map, slice_get}
-use Rattle.std.proofs.lemmas.List.Edits.{length-between}
-use Rattle.std.proofs.lemmas.List.{take_at, take_all, take_more, take-take, take-map, take_more_set, drop_at, drop-drop, drop-map, length-append, length-map, length_push, length-take, length-take-le, length-drop, flat_map_more, map-append, map_more, map_push, get_or-map, get_or-take}
-use Rattle.std.proofs.lemmas.Option.{slice_get-get_or, slice_get_past}
-use Rattle.std.proofs.lemmas.Slice.{between_is}
+use Rattle.std.proofs.Common.{◌≡◌, ℕ, zero, suc, ◌+◌, ◌*◌, ◌<◌, ◌≤◌, Bool, true, ◌&&◌, leb, List, [], ◌∷◌, ◌++◌, map, length, get_or, take, drop, Some, None, Option, sym, refl, ap, ◌∙◌, inl, inr, append_assoc, arith}
+use Rattle.std.specs.Simd.{first_chunks}
+use Rattle.std.specs.List.{flat_map}
+use Rattle.std.proofs.lemmas.List.{take_all, take_more, take-map, drop_at, drop-drop, drop-map, length-append, length_push, flat_map_more, map-append, map_more, get_or-take}
 use Rattle.std.proofs.lemmas.Bool.{and_parts, and_from, cases_Bool}
 use Rattle.raise.specs.Rules.{pick, Rule, takes, gives, takes_sum, gives_sum, fades}
 use Rattle.raise.specs.Calls.{rule_number, fine}
@@ -144,39 +141,17 @@ pub slots_more : (f : Rule → List ℕ) (h : List ℕ) (rules : List declared.R
     (h ++ flat_map f (map meant (take i rules))) ++ f (meant (get_or rules i d)) ≡ h ++ flat_map f (map meant (take (i + 1) rules))
 slots_more f h rules i d l = flat_map_more f h (map meant (take i rules)) (meant (get_or rules i d)) ∙ ap (λ (x : List Rule). h ++ flat_map f x) (sym (map_more meant rules i d l))
 
--- ---- the rules of an array, up to some place
+-- the i-th of the first chunks
+pub chunk_of : {X : Type 0} (n k i : ℕ) (xs : List X) (d : List X) → i < k → get_or (first_chunks n k xs) i d ≡ take n (drop (n * i) xs)
+chunk_of n zero i xs d l = absurd (omega arith)
+chunk_of n (suc k) zero xs d l = let z : n * 0 ≡ 0 = omega arith in ap (λ (j : ℕ). take n (drop j xs)) (sym z)
+chunk_of n (suc k) (suc i) xs d l =
+    let s : n + n * i ≡ n * suc i = omega arith in
+    chunk_of n k i (drop n xs) d (omega arith) ∙ ap (take n) (drop-drop (n * i) n xs) ∙ ap (λ (j : ℕ). take n (drop j xs)) s
 
-pub rules_long : (rules : List declared.Rule) (i : ℕ) → i ≤ length rules → length (map meant (take i rules)) ≡ i
-rules_long rules i l = length-map (take i rules) meant ∙ length-take-le i rules l
+-- ---- the code's rules
 
-pub rule_in : (rules : List declared.Rule) (n i : ℕ) (d : declared.Rule) → i < n → n ≤ length rules → slice_get (map meant (take n rules)) i ≡ Some (meant (get_or rules i d))
-rule_in rules n i d h l =
-    let m : i < length (take n rules) = omega (arith, length-take-le n rules l) in
-    slice_get-get_or (map meant (take n rules)) i (meant d) (omega (arith, rules_long rules n l)) ∙ ap Some (get_or-map meant (take n rules) i d (meant d) m ∙ ap meant (get_or-take n rules i d h))
-
-pub rule_past : (rules : List declared.Rule) (n i : ℕ) → n ≤ i → slice_get (map meant (take n rules)) i ≡ None
-rule_past rules n i h = slice_get_past (map meant (take n rules)) i (omega (arith, length-map (take n rules) meant, length-take n rules))
-
--- one more is written behind them
-pub rules_push : (rules : List declared.Rule) (i : ℕ) (r : declared.Rule) → i < length rules → map meant (take i rules) ++ (meant r ∷ []) ≡ map meant (take (i + 1) (set rules i r))
-rules_push rules i r l = sym (ap (map meant) (take_more_set rules i r l) ∙ map_push meant (take i rules) r)
-
--- after `xs[i..n].rotate_left(1)`: the first n - 1 are the first n without the i-th
-lifted : {X : Type 0} (xs : List X) (i n : ℕ) → i < n → n ≤ length xs →
-    take (n - 1) (put_mid i (n - i) xs (drop 1 (take (n - i) (drop i xs)) ++ take 1 (take (n - i) (drop i xs)))) ≡ take i (take n xs) ++ drop (suc i) (take n xs)
-lifted {X = X} xs i n h l =
-    let p = take (n - i) (drop i xs) in
-    let e : p ≡ drop i (take n xs) = between_is xs i n in
-    let s : i + 1 ≡ suc i = omega arith in
-    let d : drop 1 p ≡ drop (suc i) (take n xs) = ap (drop 1) e ∙ drop-drop 1 i (take n xs) ∙ ap (λ (k : ℕ). drop k (take n xs)) s in
-    let m : length (take i xs ++ drop 1 p) ≡ n - 1 = omega (arith, length-append (take i xs) (drop 1 p), length-take-le i xs (omega arith), length-drop 1 p, length-between xs i n l) in
-    let q = drop (n - i) (drop i xs) in
-    ap (take (n - 1)) (ap (λ (x : List X). take i xs ++ x) (append_assoc (drop 1 p) (take 1 p) q) ∙ sym (append_assoc (take i xs) (drop 1 p) (take 1 p ++ q))) ∙
-    take_at (take i xs ++ drop 1 p) (take 1 p ++ q) (n - 1) m ∙
-    ap (λ (x : List X). x ++ drop 1 p) (sym (take-take i n xs (omega arith))) ∙ ap (λ (x : List X). take i (take n xs) ++ x) d
-
-pub rules_lifted : (rules : List declared.Rule) (i n : ℕ) → i < n → n ≤ length rules →
-    map meant (take (n - 1) (put_mid i (n - i) rules (drop 1 (take (n - i) (drop i rules)) ++ take 1 (take (n - i) (drop i rules))))) ≡ take i (map meant (take n rules)) ++ drop (suc i) (map meant (take n rules))
-rules_lifted rules i n h l =
-    ap (map meant) (lifted rules i n h l) ∙ map-append meant (take i (take n rules)) (drop (suc i) (take n rules)) ∙
-    ap (λ (x : List Rule). x ++ map meant (drop (suc i) (take n rules))) (sym (take-map meant i (take n rules))) ∙ ap (λ (x : List Rule). take i (map meant (take n rules)) ++ x) (sym (drop-map meant (suc i) (take n rules)))
+pub meant_lifted : (rules : List declared.Rule) (i : ℕ) → map meant (take i rules ++ drop (suc i) rules) ≡ take i (map meant rules) ++ drop (suc i) (map meant rules)
+meant_lifted rules i =
+    map-append meant (take i rules) (drop (suc i) rules) ∙
+    ap (λ (x : List Rule). x ++ map meant (drop (suc i) rules)) (sym (take-map meant i rules)) ∙ ap (λ (x : List Rule). take i (map meant rules) ++ x) (sym (drop-map meant (suc i) rules))

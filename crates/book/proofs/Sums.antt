@@ -22,19 +22,6 @@ unfolding all_minus
 minus_push [] r g = omega arith
 minus_push (q ∷ rs) r g = omega (arith, minus_push rs r g)
 
--- with x, what the i-th lets in or out
-pub plus_more : (rs : List declared.Rule) (i g x : ℕ) (d : declared.Rule) → i < length rs → x ≡ plus (meant (get_or rs i d)) g →
-    all_plus (map meant (take (i + 1) rs)) g ≡ all_plus (map meant (take i rs)) g + x
-plus_more rs i g x d l e =
-    ap (λ (qs : List Rule). all_plus qs g) (map_more meant rs i d l) ∙ plus_push (map meant (take i rs)) (meant (get_or rs i d)) g ∙
-    ap (λ (y : ℕ). all_plus (map meant (take i rs)) g + y) (sym e)
-
-pub minus_more : (rs : List declared.Rule) (i g x : ℕ) (d : declared.Rule) → i < length rs → x ≡ minus (meant (get_or rs i d)) g →
-    all_minus (map meant (take (i + 1) rs)) g ≡ all_minus (map meant (take i rs)) g + x
-minus_more rs i g x d l e =
-    ap (λ (qs : List Rule). all_minus qs g) (map_more meant rs i d l) ∙ minus_push (map meant (take i rs)) (meant (get_or rs i d)) g ∙
-    ap (λ (y : ℕ). all_minus (map meant (take i rs)) g + y) (sym e)
-
 -- ---- sizes
 
 -- the most that one rule in range lets in or out
@@ -75,3 +62,21 @@ within_take rs i w =
 
 pub amounts_fit : AmountsFit
 amounts_fit rs g w l = let s = sums_size rs g w.fine in let few = w.few in (omega (arith, s.0), omega (arith, s.1))
+
+-- what the i-th lets in and out on top of what those before it do, and that it fits
+pub record Adds (rs : List declared.Rule) (i g inflow outflow : ℕ) : Type 0 where
+  pub plus : all_plus (map meant (take (i + 1) rs)) g ≡ all_plus (map meant (take i rs)) g + inflow
+  pub minus : all_minus (map meant (take (i + 1) rs)) g ≡ all_minus (map meant (take i rs)) g + outflow
+  pub inflow_fits : all_plus (map meant (take i rs)) g + inflow < 9223372036854775808
+  pub outflow_fits : all_minus (map meant (take i rs)) g + outflow < 9223372036854775808
+
+pub one_more : (rs : List declared.Rule) (i g inflow outflow : ℕ) (d : declared.Rule) → Within (map meant rs) → g < 4294967296 → i < length rs →
+    inflow ≡ plus (meant (get_or rs i d)) g → outflow ≡ minus (meant (get_or rs i d)) g → Adds rs i g inflow outflow
+one_more rs i g inflow outflow d w low l p m =
+    let r = meant (get_or rs i d) in
+    let e = map_more meant rs i d l in
+    let so_far = map meant (take i rs) in
+    let a = ap (λ (qs : List Rule). all_plus qs g) e ∙ plus_push so_far r g ∙ ap (λ (y : ℕ). all_plus so_far g + y) (sym p) in
+    let b = ap (λ (qs : List Rule). all_minus qs g) e ∙ minus_push so_far r g ∙ ap (λ (y : ℕ). all_minus so_far g + y) (sym m) in
+    let f = amounts_fit (map meant (take (i + 1) rs)) g (within_take rs (i + 1) w) low in
+    record { plus = a; minus = b; inflow_fits = omega (arith, a, f.0); outflow_fits = omega (arith, b, f.1) }

@@ -6,9 +6,9 @@
 -- that was accepted, so that equal books then have equal words.
 use Rattle.std.specs.Prelude.{◌≡◌, ℕ, zero, suc, ◌+◌, ◌-◌, ◌*◌, ◌<◌, ◌≤◌, Bool, true, ◌&&◌, List, [], ◌∷◌, ◌++◌, length, drop, replicate, Some, None, Option, ◌==◌, nat_le, nat_lt, slice_index}
 use Rattle.std.specs.List.{flat_map}
-use Rattle.raise.specs.Rules.{pick, Rule, takes, gives, takes_sum, gives_sum, fades, all_plus, all_minus}
+use Rattle.raise.specs.Rules.{pick, Rule, all_plus, all_minus}
 use Rattle.raise.specs.Calls.{rule_number, fine}
-use Rattle.wire.specs.CallBytes.{rule_from}
+use Rattle.wire.specs.CallBytes.{numbers, rule_from}
 
 pub record Book : Type 0 where
   pub limit : ℕ
@@ -42,13 +42,6 @@ head_words limit bound count = tag ∷ (limit ∷ (bound ∷ (count ∷ [])))
 -- how many words a slot has
 abbrev pub width : ℕ
 width = 4
-
-abbrev pub numbers : Rule → List ℕ
-numbers (takes a b r) = a ∷ (b ∷ (r ∷ []))
-numbers (gives a b r) = a ∷ (b ∷ (r ∷ []))
-numbers (takes_sum a b s) = a ∷ (b ∷ (s ∷ []))
-numbers (gives_sum a b s) = a ∷ (b ∷ (s ∷ []))
-numbers (fades a r s) = a ∷ (r ∷ (s ∷ []))
 
 abbrev pub slot : Rule → List ℕ
 slot r = rule_number r ∷ numbers r
@@ -104,7 +97,7 @@ pub record Within (rs : List Rule) : Type 0 where
   pub few : length rs ≤ 64
   pub fine : all_fine rs ≡ true
 
--- what an opened book keeps to
+-- what every book keeps to
 pub record Good (b : Book) : Type 0 where
   pub few : b.limit ≤ 64
   pub low : b.bound ≤ 1000000000

@@ -1,29 +1,19 @@
--- What the code's book stands for. Nothing is assumed.
-use Rattle.std.specs.Prelude.{◌≡◌, ℕ, ◌≤◌, List, length, take, Some, None, Option}
+-- What the code's book stands for, and what a book that was read from words keeps to. Nothing is assumed.
+use Rattle.std.specs.Prelude.{◌≡◌, ℕ, ◌≤◌, List, length, Some, None, Option}
 use Rattle.book.specs.Held as held
 use Rattle.book.specs.Held.{Good, asked, book_of}
 use Rattle.book.specs.Meant.{all_meant}
-use Rattle.book.specs.declared.held.Book.{Book}
+use Rattle.book.specs.declared.held.Book.TheInside.{Inside}
 
-abbrev pub stands_for : Book → held.Book
-stands_for b = record { limit = b.limit; bound = b.bound; rules = all_meant (take b.count b.rules) }
+abbrev pub stands_for : Inside → held.Book
+stands_for b = record { limit = b.limit; bound = b.bound; rules = all_meant b.rules.items }
 
-abbrev pub stands_if : Option Book → Option held.Book
-stands_if None = None
-stands_if (Some b) = Some (stands_for b)
-
--- a value whose rules are all in its array
-pub record Sized (b : Book) : Type 0 where
-  pub few : b.limit ≤ 64
-  pub room : b.count ≤ b.limit
-
--- a value that was read from these words
-pub record ReadFrom (ws : List ℕ) (b : Book) : Type 0 where
-  pub held : book_of ws ≡ Some (stands_for b)
-  pub sized : Sized b
-  pub good : Good (stands_for b)
+-- a book that was read from these words
+pub record ReadFrom (ws : List ℕ) (b : held.Book) : Type 0 where
+  pub held : book_of ws ≡ Some b
+  pub good : Good b
   pub long : asked b.limit ≤ length ws
 
-abbrev pub ReadIf : List ℕ → Option Book → Type 0
+abbrev pub ReadIf : List ℕ → Option held.Book → Type 0
 ReadIf ws None = book_of ws ≡ None
 ReadIf ws (Some b) = ReadFrom ws b

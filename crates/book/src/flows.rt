@@ -1,44 +1,37 @@
 // What all rules together let in and out of a gross.
-ghost use Rattle.std.specs.Prelude.{◌≡◌};
+ghost use Rattle.std.specs.Prelude.{◌≡◌, ◌<◌, ◌^◌};
 ghost use Rattle.raise.specs.Rules.{all_plus, all_minus};
 ghost use Rattle.raise.specs.Net.{net};
-ghost use Rattle.book.specs.Held.{Within, AmountsFit};
-ghost use Rattle.book.specs.Meant.{all_meant};
+ghost use Rattle.book.specs.Held.{AmountsFit};
 
+use crate::held::Book;
 use crate::rules::{Flows, flows_by};
 use raise::fine;
-use wire::Rule;
 
-fn add_up(rules: &[Rule], gross: u32) -> Flows
-    requires { Within (all_meant rules.now) }
-    ensures inflow { result.inflow ≡ all_plus (all_meant rules.now) gross }
-    ensures outflow { result.outflow ≡ all_minus (all_meant rules.now) gross }
-{
-    let mut inflow = fine(gross);
-    let mut outflow = 0;
-    for rule in rules {
-        let flows = flows_by(*rule, gross);
-        inflow += flows.inflow;
-        outflow += flows.outflow;
+impl Book {
+    // What comes in with the gross, and what goes out. Neither has more than 63 bits.
+    pub fn flows_of(&self, gross: u32) -> Flows
+        ensures inflow { result.inflow ≡ all_plus self.now.rules gross }
+        ensures outflow { result.outflow ≡ all_minus self.now.rules gross }
+        ensures small { (result.inflow < 2 ^ 63) × (result.outflow < 2 ^ 63) }
+        ensures fits { AmountsFit }
+    {
+        let mut inflow = fine(gross);
+        let mut outflow = 0;
+        for rule in self.rules() {
+            let flows = flows_by(*rule, gross);
+            inflow += flows.inflow;
+            outflow += flows.outflow;
+        }
+        Flows { inflow, outflow }
     }
-    Flows { inflow, outflow }
-}
 
-// What comes in with the gross, and what goes out. Neither has more than 63 bits.
-pub fn flows_of(rules: &[Rule], gross: u32) -> Flows
-    requires { Within (all_meant rules.now) }
-    ensures inflow { result.inflow ≡ all_plus (all_meant rules.now) gross }
-    ensures outflow { result.outflow ≡ all_minus (all_meant rules.now) gross }
-    ensures fits { AmountsFit }
-{
-    add_up(rules, gross)
-}
-
-// What is left of a gross; it may be less than nothing.
-pub fn net_of(rules: &[Rule], gross: u32) -> i64
-    requires { Within (all_meant rules.now) }
-    ensures { result ≡ net (all_meant rules.now) gross }
-{
-    let flows = add_up(rules, gross);
-    flows.inflow as i64 - flows.outflow as i64
+    // What is left of a gross; it may be less than nothing.
+    pub fn net_of(&self, gross: u32) -> i64
+        ensures { result ≡ net self.now.rules gross }
+    {
+        let flows = self.flows_of(gross);
+        // No `From` goes from `u64` to `i64`; both have at most 63 bits.
+        flows.inflow as i64 - flows.outflow as i64
+    }
 }

@@ -7,6 +7,5 @@ mod held;
 mod rules;
 mod slots;
 
-pub use flows::{flows_of, net_of};
-pub use held::{Book, lay, lift, open_empty, read_book, words_asked, write_book};
+pub use held::{Book, open_empty, read_book, words_asked, write_book};
 pub use rules::{Flows, is_fine};

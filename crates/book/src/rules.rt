@@ -14,13 +14,14 @@ const MOST_RATE: u32 = 20_000;
 const MOST_SUM: u32 = 100_000_000;
 
 // What comes in and what goes out, in ten-thousandths of a unit.
-#[derive(Clone, Copy)]
+#[derive(Clone, Copy, Debug, PartialEq, Eq)]
 pub struct Flows {
     pub inflow: u64,
     pub outflow: u64,
 }
 
 // Borders in order and at most 1,000,000,000, a rate of at most 20,000, a sum of at most 100,000,000.
+#[tactic(auto, unfolding(raise::specs::Calls::fine))]
 pub fn is_fine(rule: Rule) -> bool
     ensures { result ≡ fine_rule (meant rule) }
 {
@@ -41,7 +42,7 @@ pub fn is_fine(rule: Rule) -> bool
 fn by_rate(from: u32, to: u32, rate: u32, gross: u32) -> u64
     ensures { result ≡ rate * (lesser gross to - from) }
 {
-    rate as u64 * gross.min(to).saturating_sub(from) as u64
+    u64::from(rate) * u64::from(gross.min(to).saturating_sub(from))
 }
 
 // A sum where the gross is `from` or more and below `to`.
@@ -59,7 +60,7 @@ fn by_sum(from: u32, to: u32, sum: u32, gross: u32) -> u64
 fn by_fade(from: u32, rate: u32, sum: u32, gross: u32) -> u64
     ensures { result ≡ 10000 * sum - rate * (gross - from) }
 {
-    fine(sum).saturating_sub(rate as u64 * gross.saturating_sub(from) as u64)
+    fine(sum).saturating_sub(u64::from(rate) * u64::from(gross.saturating_sub(from)))
 }
 
 fn gives(inflow: u64) -> Flows
@@ -75,6 +76,7 @@ fn takes(outflow: u64) -> Flows
 }
 
 // What a rule lets in and out of a gross.
+#[tactic(auto, unfolding(raise::specs::Rules::plus, raise::specs::Rules::minus))]
 pub(crate) fn flows_by(rule: Rule, gross: u32) -> Flows
     ensures inflow { result.inflow ≡ plus (meant rule) gross }
     ensures outflow { result.outflow ≡ minus (meant rule) gross }

@@ -1,57 +1,34 @@
 // A rule in the words of its slot: the number of its kind, and its three numbers.
-ghost use Rattle.std.specs.Prelude.{◌≡◌, ◌≤◌, length, Some, None, nat_le};
-ghost use Rattle.raise.specs.Rules.{pick};
+ghost use Rattle.std.specs.Prelude.{◌≡◌};
 ghost use Rattle.wire.specs.Meaning.{meant};
-ghost use Rattle.book.specs.Held.{width, slot, slot_rule};
+ghost use Rattle.book.specs.Held.{slot, slot_rule};
 ghost use Rattle.book.specs.Meant.{meant_if};
 
 use crate::rules::is_fine;
-use wire::{Rule, rule_of_kind};
+use wire::{Rule, RuleKind};
 
 // How many words a slot has.
 pub(crate) const SLOT: usize = 4;
 
-// A number of a rule, if it can be one.
-fn narrow(word: u64) -> Option<u32>
-    ensures { result ≡ pick (nat_le word 1000000000) (Some word) None }
+// The rule that a slot holds, if it is one in range.
+#[tactic(auto, unfolding(raise::specs::Calls::fine))]
+pub(crate) fn read_slot(slot: &[u64; SLOT]) -> Option<Rule>
+    ensures { meant_if result ≡ slot_rule slot.now }
 {
-    if word <= 1_000_000_000 {
-        Some(word as u32)
-    } else {
-        None
-    }
+    let [kind, first, second, last] = *slot;
+    let kind = u8::try_from(kind).ok()?;
+    let kind = RuleKind::try_from(kind).ok()?;
+    let first = u32::try_from(first).ok()?;
+    let second = u32::try_from(second).ok()?;
+    let last = u32::try_from(last).ok()?;
+    let rule = kind.rule([first, second, last]);
+    is_fine(rule).then_some(rule)
 }
 
-// The rule that the slot at the beginning of the part holds, if it is one in range.
-pub(crate) fn read_slot(part: &[u64]) -> Option<Rule>
-    requires { width ≤ length part.now }
-    ensures { meant_if result ≡ slot_rule part.now }
-{
-    let [kind @ 0..=4, first, second, third, ..] = part else {
-        return None;
-    };
-    let Some(first) = narrow(*first) else {
-        return None;
-    };
-    let Some(second) = narrow(*second) else {
-        return None;
-    };
-    let Some(third) = narrow(*third) else {
-        return None;
-    };
-    let rule = rule_of_kind(*kind as u8, first, second, third);
-    if is_fine(rule) { Some(rule) } else { None }
-}
-
-// The words of a rule.
+// The words of a rule. No `From`: neither a rule nor an array is of this crate. The cast of a kind is its number.
 pub(crate) fn slot_of(rule: Rule) -> [u64; SLOT]
     ensures { result ≡ slot (meant rule) }
 {
-    match rule {
-        Rule::Take { from, to, rate } => [0, from as u64, to as u64, rate as u64],
-        Rule::Give { from, to, rate } => [1, from as u64, to as u64, rate as u64],
-        Rule::TakeSum { from, to, sum } => [2, from as u64, to as u64, sum as u64],
-        Rule::GiveSum { from, to, sum } => [3, from as u64, to as u64, sum as u64],
-        Rule::Fade { from, rate, sum } => [4, from as u64, rate as u64, sum as u64],
-    }
+    let [first, second, last] = rule.numbers().map(u64::from);
+    [rule.kind() as u64, first, second, last]
 }

@@ -1,13 +1,13 @@
 // Which rules are in range, each limit at its edge.
 use book::is_fine;
 use std::process::Abort;
-use wire::rule_of_kind;
+use wire::RuleKind;
 
 const MOST: u32 = 1_000_000_000;
 
-fn checked(rt: &impl Abort, kind: u8, rules: &[(u32, u32, u32, bool)]) {
+fn checked(rt: &impl Abort, kind: RuleKind, rules: &[(u32, u32, u32, bool)]) {
     for (from, second, last, fine) in rules {
-        assert_eq!(rt; is_fine(rule_of_kind(kind, *from, *second, *last)), *fine);
+        assert_eq!(rt; is_fine(kind.rule([*from, *second, *last])), *fine);
     }
 }
 
@@ -22,8 +22,8 @@ fn rates(rt: HostRuntime) {
         (6, 5, 1, false),
         (MOST, MOST, 1, false),
     ];
-    checked(&rt, 0, &rates);
-    checked(&rt, 1, &rates);
+    checked(&rt, RuleKind::Take, &rates);
+    checked(&rt, RuleKind::Give, &rates);
 }
 
 #[test]
@@ -36,15 +36,15 @@ fn sums(rt: HostRuntime) {
         (5, 5, 1, false),
         (6, 5, 1, false),
     ];
-    checked(&rt, 2, &sums);
-    checked(&rt, 3, &sums);
+    checked(&rt, RuleKind::TakeSum, &sums);
+    checked(&rt, RuleKind::GiveSum, &sums);
 }
 
 #[test]
 fn fades(rt: HostRuntime) {
     checked(
         &rt,
-        4,
+        RuleKind::Fade,
         &[
             (0, 0, 0, true),
             (MOST, 20_000, 100_000_000, true),

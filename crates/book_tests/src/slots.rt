@@ -1,40 +1,41 @@
 // Rules of every kind, laid into their slots, read from them, and lifted.
-use book::{is_fine, lay, lift, open_empty, read_book};
+use book::{Book, is_fine, open_empty, read_book, words_asked, write_book};
 use std::process::Abort;
 use std::test::Fail;
-use wire::{Rule, rule_of_kind};
+use wire::RuleKind;
 
-// The number of a rule's kind, and its three numbers.
-fn numbers(rule: Rule) -> [u32; 4] {
-    match rule {
-        Rule::Take { from, to, rate } => [0, from, to, rate],
-        Rule::Give { from, to, rate } => [1, from, to, rate],
-        Rule::TakeSum { from, to, sum } => [2, from, to, sum],
-        Rule::GiveSum { from, to, sum } => [3, from, to, sum],
-        Rule::Fade { from, rate, sum } => [4, from, rate, sum],
-    }
-}
-
-fn lay_kind(rt: &impl Abort, words: &mut [u64], kind: u8, number: Option<u32>) -> Result<(), Fail> {
-    let book = read_book(words).ok_or("no book")?;
-    let rule = rule_of_kind(kind, 10, 20, 30);
+fn lay_kind(
+    rt: &impl Abort,
+    words: &mut [u64],
+    kind: RuleKind,
+    number: Option<u32>,
+) -> Result<(), Fail> {
+    let mut book = read_book(words).ok_or("no book")?;
+    let rule = kind.rule([10, 20, 30]);
     if !is_fine(rule) {
         return Err(Fail::new("out of range"));
     }
-    assert_eq!(rt; lay(words, book, rule), number);
-    Ok(())
+    assert_eq!(rt; book.lay(rule), number);
+    write_back(words, &book)
 }
 
 fn lift_it(rt: &impl Abort, words: &mut [u64], i: u32, number: Option<u32>) -> Result<(), Fail> {
-    let book = read_book(words).ok_or("no book")?;
-    assert_eq!(rt; lift(words, book, i), number);
+    let mut book = read_book(words).ok_or("no book")?;
+    assert_eq!(rt; book.lift(i), number);
+    write_back(words, &book)
+}
+
+fn write_back(words: &mut [u64], book: &Book) -> Result<(), Fail> {
+    if words.len() < words_asked(book.limit()) {
+        return Err(Fail::new("too few words"));
+    }
+    write_book(words, book);
     Ok(())
 }
 
-fn holds(rt: &impl Abort, words: &[u64], i: u32, kind: u32) -> Result<(), Fail> {
+fn holds(rt: &impl Abort, words: &[u64], i: u32, kind: RuleKind) -> Result<(), Fail> {
     let book = read_book(words).ok_or("no book")?;
-    let rule = book.rule(i).ok_or("no rule")?;
-    assert_eq!(rt; numbers(rule), [kind, 10, 20, 30]);
+    assert_eq!(rt; book.rule(i), Some(kind.rule([10, 20, 30])));
     Ok(())
 }
 
@@ -50,27 +51,40 @@ fn every_kind(rt: HostRuntime) -> Result<(), Fail> {
     let mut words = [9u64; 226];
     open_empty(&mut words, 5, 300);
     count(&rt, &words, 0)?;
-    lay_kind(&rt, &mut words, 0, Some(0))?;
-    lay_kind(&rt, &mut words, 1, Some(1))?;
-    lay_kind(&rt, &mut words, 2, Some(2))?;
-    lay_kind(&rt, &mut words, 3, Some(3))?;
-    lay_kind(&rt, &mut words, 4, Some(4))?;
-    lay_kind(&rt, &mut words, 0, None)?;
+    lay_kind(&rt, &mut words, RuleKind::Take, Some(0))?;
+    lay_kind(&rt, &mut words, RuleKind::Give, Some(1))?;
+    lay_kind(&rt, &mut words, RuleKind::TakeSum, Some(2))?;
+    lay_kind(&rt, &mut words, RuleKind::GiveSum, Some(3))?;
+    lay_kind(&rt, &mut words, RuleKind::Fade, Some(4))?;
+    lay_kind(&rt, &mut words, RuleKind::Take, None)?;
     count(&rt, &words, 5)?;
     assert_eq!(rt; &words[4..12], [0, 10, 20, 30, 1, 10, 20, 30].as_slice());
     assert_eq!(rt;
         &words[12..24],
         [2, 10, 20, 30, 3, 10, 20, 30, 4, 10, 20, 30].as_slice()
     );
-    holds(&rt, &words, 0, 0)?;
-    holds(&rt, &words, 4, 4)?;
+    holds(&rt, &words, 0, RuleKind::Take)?;
+    holds(&rt, &words, 4, RuleKind::Fade)?;
     lift_it(&rt, &mut words, 1, Some(1))?;
     lift_it(&rt, &mut words, 4, None)?;
     count(&rt, &words, 4)?;
-    holds(&rt, &words, 0, 0)?;
-    holds(&rt, &words, 1, 2)?;
-    holds(&rt, &words, 3, 4)?;
+    holds(&rt, &words, 0, RuleKind::Take)?;
+    holds(&rt, &words, 1, RuleKind::TakeSum)?;
+    holds(&rt, &words, 3, RuleKind::Fade)?;
     assert_eq!(rt; &words[20..24], [0, 0, 0, 0].as_slice());
     assert_eq!(rt; &words[224..], [9, 9].as_slice());
     Ok(())
+}
+
+// As many rules as a book may hold.
+#[test]
+fn as_many_as_fit(rt: HostRuntime) -> Result<(), Fail> {
+    let mut words = [9u64; 2112];
+    open_empty(&mut words, 64, 300);
+    for i in 0..64 {
+        lay_kind(&rt, &mut words, RuleKind::Take, Some(i))?;
+    }
+    lay_kind(&rt, &mut words, RuleKind::Take, None)?;
+    count(&rt, &words, 64)?;
+    holds(&rt, &words, 63, RuleKind::Take)
 }

@@ -9,7 +9,7 @@ pub mod worked;
 ghost use Rattle.std.specs.Prelude.{◌≡◌, ◌*◌};
 
 // Earnings that all lose by earning more, from the first to the last.
-#[derive(Clone, Copy)]
+#[derive(Clone, Copy, Debug, PartialEq, Eq)]
 pub struct LosingRange {
     pub first: u32,
     pub last: u32,
@@ -19,5 +19,5 @@ pub struct LosingRange {
 pub fn fine(units: u32) -> u64
     ensures { result ≡ 10000 * units }
 {
-    10000 * (units as u64)
+    10_000 * u64::from(units)
 }

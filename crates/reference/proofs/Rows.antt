@@ -1,13 +1,10 @@
 -- The row from the first that loses: up to before the first after it that doesn't, or up to the bound.
-use Rattle.std.proofs.Common.{◌≡◌, ℕ, suc, ◌-◌, ◌<◌, false, not, eqb, List, sym, refl, ap, inl, inr, arith}
+use Rattle.std.proofs.Common.{◌≡◌, ℕ, suc, ◌-◌, ◌<◌, false, not, eqb, List, Some, None, Option, MatchOption, sym, refl, ap, inl, inr, arith}
 use Rattle.std.proofs.lemmas.Bool.{both_ways, not-true, cases_eq, ne_eqb}
 use Rattle.raise.specs.Rules.{Rule, loses, first_losing, first_not}
 use Rattle.raise.specs.Calls.{Limits, two, row_from}
+use Rattle.raise.specs.Told.{place_told}
 use Rattle.raise.proofs.Search.{first_found}
-
-pub row_none : (l : Limits) (rs : List Rule) (n : ℕ) → 0 ≡ n → two 0 0 ≡ row_from l rs n
-unfolding row_from
-row_none l rs n e = rw (← e) refl
 
 module _ (rs : List Rule) (b g first : ℕ) (e : suc first ≡ first_losing rs b g) where
   pub next_above : (next : ℕ) → suc next ≡ first_not rs b first → first < next
@@ -19,14 +16,12 @@ module _ (rs : List Rule) (b g first : ℕ) (e : suc first ≡ first_losing rs b
         | inr other ↦ omega (arith, j.0)
       ]
 
-  pub row_stops : (next : ℕ) → suc next ≡ first_not rs b first → (l : Limits) → l.bound ≡ b → two (suc first) (suc (next - 1)) ≡ row_from l rs (first_losing rs b g)
+  pub row_is : (o : Option ℕ) (last : ℕ) → place_told o ≡ first_not rs b first → MatchOption o (last ≡ b) (λ next. last ≡ next - 1) →
+      (l : Limits) → l.bound ≡ b → two (suc first) (suc last) ≡ row_from l rs (first_losing rs b g)
   unfolding row_from
-  row_stops next f l d =
+  row_is None last f at l d = rw (at, ← e, d, ← f) refl
+  row_is (Some next) last f at l d =
       let lt = next_above next f in
-      let s : suc (next - 1) ≡ suc next - 1 = omega arith in
+      let s : suc last ≡ suc next - 1 = omega arith in
       let n : eqb (suc next) 0 ≡ false = ne_eqb _ _ (λ z. omega arith) in
       rw (← e, d, ← f, n) (ap (two (suc first)) s)
-
-  pub row_goes_on : 0 ≡ first_not rs b first → (l : Limits) → l.bound ≡ b → two (suc first) (suc b) ≡ row_from l rs (first_losing rs b g)
-  unfolding row_from
-  row_goes_on f l d = rw (← e, d, ← f) refl

@@ -1,109 +1,67 @@
-// Row and safe, slowly: loops that try every earning, by the definition itself. This crate owns the slow answers, which are
-// short enough to be checked by eye. Until there are fast ones a session answers by them; after that only tests do, which
-// compare the fast ones with them.
+// Row and safe, slowly: searches that try every earning, by the definition itself. This crate owns the slow answers, which
+// are short enough to be checked by eye. Until there are fast ones a session answers by them; after that only tests do,
+// which compare the fast ones with them.
 #![tactic(auto)]
 
-ghost use Rattle.std.specs.Prelude.{◌≡◌, suc, ◌-◌, ◌≤◌, ◌&&◌, nat_lt};
+ghost use Rattle.std.specs.Prelude.{◌≡◌, suc, ◌-◌, ◌&&◌, nat_lt};
 ghost use Rattle.raise.specs.Rules.{some_less, loses, first_losing, first_not, all_as_much, safe_from};
 ghost use Rattle.raise.specs.Calls.{Limits, row_from};
 ghost use Rattle.raise.specs.Told.{place_told, row_told};
-ghost use Rattle.book.specs.Held.{Within};
-ghost use Rattle.book.specs.Meant.{all_meant};
 
-use book::net_of;
+use book::Book;
 use raise::LosingRange;
-use wire::Rule;
 
 // Is less left than of the gross of one of the earnings from `from` on?
-fn less_from(rules: &[Rule], bound: u32, gross: u32, from: u32) -> bool
-    requires { Within (all_meant rules.now) }
-    ensures { result ≡ some_less (all_meant rules.now) gross (suc bound - from) from }
+fn less_from(book: &Book, gross: u32, from: u32) -> bool
+    ensures { result ≡ some_less book.now.rules gross (suc book.now.bound - from) from }
 {
-    let net = net_of(rules, gross);
-    for other in from..=bound {
-        if net_of(rules, other) < net {
-            return true;
-        }
-    }
-    false
+    let net = book.net_of(gross);
+    (from..=book.bound()).any(|other| book.net_of(other) < net)
 }
 
-// Is less left of a larger earning? Up to the highest bound the next earning fits.
-fn loses(rules: &[Rule], bound: u32, gross: u32) -> bool
-    requires within { Within (all_meant rules.now) }
-    requires low { bound ≤ 1000000000 }
-    requires asked { gross ≤ bound }
-    ensures { result ≡ loses (all_meant rules.now) bound gross }
+// Is less left of a larger earning, up to the bound?
+#[tactic(auto, unfolding(raise::specs::Rules::some_less))]
+fn loses(book: &Book, gross: u32) -> bool
+    ensures { result ≡ loses book.now.rules book.now.bound gross }
 {
-    less_from(rules, bound, gross, gross + 1)
+    gross < book.bound() && less_from(book, gross, gross + 1)
 }
 
-fn first_losing(rules: &[Rule], bound: u32, gross: u32) -> Option<u32>
-    requires within { Within (all_meant rules.now) }
-    requires low { bound ≤ 1000000000 }
-    ensures { place_told result ≡ first_losing (all_meant rules.now) bound gross }
+// These two differ in a `!`, and each owes a definition of its own.
+fn first_losing(book: &Book, gross: u32) -> Option<u32>
+    ensures { place_told result ≡ first_losing book.now.rules book.now.bound gross }
 {
-    for earned in gross..=bound {
-        if loses(rules, bound, earned) {
-            return Some(earned);
-        }
-    }
-    None
+    (gross..=book.bound()).find(|earned| loses(book, *earned))
 }
 
-fn first_not(rules: &[Rule], bound: u32, gross: u32) -> Option<u32>
-    requires within { Within (all_meant rules.now) }
-    requires low { bound ≤ 1000000000 }
-    ensures { place_told result ≡ first_not (all_meant rules.now) bound gross }
+fn first_not(book: &Book, gross: u32) -> Option<u32>
+    ensures { place_told result ≡ first_not book.now.rules book.now.bound gross }
 {
-    for earned in gross..=bound {
-        if !loses(rules, bound, earned) {
-            return Some(earned);
-        }
-    }
-    None
+    (gross..=book.bound()).find(|earned| !loses(book, *earned))
 }
 
 // The first row of those who lose, from a gross on, if there is one.
-pub fn row_from(rules: &[Rule], bound: u32, gross: u32) -> Option<LosingRange>
-    requires within { Within (all_meant rules.now) }
-    requires low { bound ≤ 1000000000 }
-    ensures { (l : Limits) → l.bound ≡ bound → row_told result ≡ row_from l (all_meant rules.now) (first_losing (all_meant rules.now) bound gross) }
+#[tactic(auto, unfolding(raise::specs::Calls::row_from))]
+pub fn row_from(book: &Book, gross: u32) -> Option<LosingRange>
+    ensures { (l : Limits) → l.bound ≡ book.now.bound → row_told result ≡ row_from l book.now.rules (first_losing book.now.rules book.now.bound gross) }
 {
-    let first = first_losing(rules, bound, gross)?;
-    let last = match first_not(rules, bound, first) {
-        // Above `first`, which loses, so that there is one before it.
-        Some(next) => next - 1,
-        None => bound,
-    };
+    let first = first_losing(book, gross)?;
+    // The next earning that doesn't lose is above `first`, which does, so that there is one before it.
+    let last = first_not(book, first).map_or(book.bound(), |next| next - 1);
     Some(LosingRange { first, last })
 }
 
-// Is at least as much left as of the gross of each of the earnings from `from` on?
-fn as_much_from(rules: &[Rule], bound: u32, gross: u32, from: u32) -> bool
-    requires { Within (all_meant rules.now) }
-    ensures { result ≡ all_as_much (all_meant rules.now) gross (suc bound - from) from }
+// Is the earning `from` above the gross, and is at least as much left of each from it on?
+#[tactic(auto, using(raise::proofs::Search::not_less))]
+fn is_safe(book: &Book, gross: u32, from: u32) -> bool
+    ensures { result ≡ (nat_lt gross from && all_as_much book.now.rules gross (suc book.now.bound - from) from) }
 {
-    !less_from(rules, bound, gross, from)
-}
-
-fn is_safe(rules: &[Rule], bound: u32, gross: u32, from: u32) -> bool
-    requires { Within (all_meant rules.now) }
-    ensures { result ≡ (nat_lt gross from && all_as_much (all_meant rules.now) gross (suc bound - from) from) }
-{
-    gross < from && as_much_from(rules, bound, gross, from)
+    gross < from && !less_from(book, gross, from)
 }
 
 // The smallest gross above, from which on at least as much is left, if there is one.
-pub fn safe_from(rules: &[Rule], bound: u32, gross: u32) -> Option<u32>
-    requires within { Within (all_meant rules.now) }
-    requires low { bound ≤ 1000000000 }
-    ensures { place_told result ≡ safe_from (all_meant rules.now) bound gross }
+pub fn safe_from(book: &Book, gross: u32) -> Option<u32>
+    ensures { place_told result ≡ safe_from book.now.rules book.now.bound gross }
 {
-    for earned in gross..=bound {
-        if is_safe(rules, bound, gross, earned) {
-            return Some(earned);
-        }
-    }
-    None
+    (gross..=book.bound()).find(|earned| is_safe(book, gross, *earned))
 }

@@ -53,10 +53,10 @@ module _ (rs : List Rule) (b : ℕ) where
   pub segment_right : (g : ℕ) → g ≤ b → SegmentOf rs b (segment_at rs b g)
   segment_right g le = let n = next_breakpoints rs b g le in record { ends = n; straight = net_straight rs g (next_breakpoint rs b g) n.between }
 
-  pub segment_sized : (g : ℕ) → g ≤ b → b ≤ 1000000000 → Within rs → Sized (segment_at rs b g)
+  pub segment_sized : (g : ℕ) → g ≤ b → next_breakpoint rs b g ≤ 1000000001 → Within rs → Sized (segment_at rs b g)
   segment_sized g le low w =
       let s = segment_right g le in
-      record { net = λ h a z. rw (← s.straight h a z) (net_small rs h w (omega (arith, s.ends.within))); slope = slope_small rs g w }
+      record { net = λ h a z. rw (← s.straight h a z) (net_small rs h w (omega (arith, low))); slope = slope_small rs g w }
 
   chain : (n x : ℕ) → x ≤ suc b → (x ≤ b → above (breakpoints rs) x < n) → Chain (segments_from rs b n x) x (suc b)
   unfolding segments_from Chain

@@ -1,8 +1,8 @@
 -- The slope, rule by rule; how large it gets, and net.
 use Rattle.std.proofs.Common.{◌≡◌, ℕ, zero, suc, ◌+◌, ◌-◌, ◌*◌, ◌<◌, ◌≤◌, Bool, true, false, List, [], ◌∷◌, ◌++◌, length, get_or, take, ℤ, pos, negsuc, ◌+ℤ◌, ◌-ℤ◌, neg_ℤ, nat_abs, sym, refl, ap, ◌∙◌, inl, inr, arith, w64, SFits, to_z, of_z}
 use lib.Signed.{mag}
-use Rattle.std.proofs.lemmas.List.{map_more}
-use Rattle.std.proofs.lemmas.Int.{ints, to_z-of_z}
+use Rattle.std.proofs.lemmas.List.{map_more, length-map, length-take-le}
+use Rattle.std.proofs.lemmas.Int.{ints, to_z-of_z, fits_signed_from_abs}
 use Rattle.std.proofs.lemmas.Bool.{cases_lt, and_parts}
 use Rattle.std.proofs.lemmas.Bool.Decides.{nat_tests}
 use Rattle.raise.specs.Rules.{pick, Rule, takes, gives, takes_sum, gives_sum, fades, all_plus, all_minus}
@@ -12,7 +12,6 @@ use Rattle.wire.specs.declared.calls.Rule as declared
 use Rattle.wire.specs.Meaning.{meant}
 use Rattle.book.specs.Held.{all_fine, Within}
 use Rattle.book.specs.Meant.{all_meant}
-use Rattle.book.proofs.Places.{rules_long}
 use Rattle.book.proofs.Sums.{within_take, sums_size}
 use Rattle.segments.specs.Bits.{marked, nth_holds, Holding, slope_on}
 
@@ -48,10 +47,6 @@ sum_abs (pos a) (pos b) = omega arith
 sum_abs (pos a) (negsuc b) = grind (arith, ints)
 sum_abs (negsuc a) (pos b) = grind (arith, ints)
 sum_abs (negsuc a) (negsuc b) = omega arith
-
-pub fits_abs : (z : ℤ) → nat_abs z ≤ 9000000000000000000 → SFits w64 z
-fits_abs (pos n) h = record { sfits = omega arith }
-fits_abs (negsuc n) h = record { sfits = omega arith }
 
 pace_size : (r : Rule) → fine r ≡ true → nat_abs (pace r) ≤ 20000
 unfolding fine
@@ -94,12 +89,12 @@ module _ (rules : List declared.Rule) (w : Within (all_meant rules)) (m i : ℕ)
   unfolding up_to
   one_more t e =
       ap (slope_on (marked m)) (map_more meant rules i d l) ∙ slope_push (marked m) (all_meant (take i rules)) (meant (get_or rules i d)) ∙
-      ap (λ (n : ℕ). slope_on (marked m) (all_meant (take i rules)) +ℤ pick (marked m n) (pace (meant (get_or rules i d))) (pos 0)) (rules_long rules i (omega arith)) ∙
+      ap (λ (n : ℕ). slope_on (marked m) (all_meant (take i rules)) +ℤ pick (marked m n) (pace (meant (get_or rules i d))) (pos 0)) (length-map (take i rules) meant ∙ length-take-le i rules (omega arith)) ∙
       ap (λ (b : Bool). slope_on (marked m) (all_meant (take i rules)) +ℤ pick b (pace (meant (get_or rules i d))) (pos 0)) (sym e)
 
   fits : SFits w64 (up_to (i + 1))
   unfolding up_to
-  fits = fits_abs _ (omega (arith, on_small (marked m) (all_meant (take (i + 1) rules)) (within_take rules (i + 1) w)))
+  fits = fits_signed_from_abs w64 _ (omega (arith, on_small (marked m) (all_meant (take (i + 1) rules)) (within_take rules (i + 1) w)))
 
   pub not_added : (x : ℤ) → x ≡ slope_on (marked m) (all_meant (take i rules)) → false ≡ marked m i → x ≡ slope_on (marked m) (all_meant (take (i + 1) rules))
   unfolding up_to

@@ -53,6 +53,12 @@ unfolding least_above clear
 least_next [] x e lt = record { above = lt; within = omega arith; between = refl; reached = inr refl }
 least_next (y ∷ ys) x e lt = one_more y ys x e _ (least_next ys x e lt)
 
+-- nothing above the end, even where x is not below it
+pub least_within : (ys : List ℕ) (x e : ℕ) → least_above ys x e ≤ e
+unfolding least_above
+least_within [] x e = omega arith
+least_within (y ∷ ys) x e = let i = least_within ys x e in grind arith
+
 pub next_breakpoints : NextBreakpoints
 next_breakpoints rs b g le = least_next (breakpoints rs) g (suc b) (omega arith)
 

@@ -18,10 +18,8 @@ pub(crate) struct Span {
 fn faded_at(from: u32, rate: u32, sum: u32) -> Option<u64>
     ensures { result ≡ (span (fades from rate sum)).to }
 {
-    if rate == 0 {
-        return None;
-    }
-    Some(from as u64 + raise::fine(sum) / rate as u64 + 1)
+    let units = raise::fine(sum).checked_div(u64::from(rate))?;
+    Some(u64::from(from) + units + 1)
 }
 
 // The stretch on which a rule holds.
@@ -34,7 +32,7 @@ pub(crate) fn span_of(rule: Rule) -> Span
         | Rule::TakeSum { from, to, .. }
         | Rule::GiveSum { from, to, .. } => Span {
             from,
-            to: Some(to as u64),
+            to: Some(u64::from(to)),
         },
         Rule::Fade { from, rate, sum } => Span {
             from,
@@ -48,11 +46,7 @@ pub(crate) fn holds_at(rule: Rule, gross: u32) -> bool
     ensures { result ≡ holds (meant rule) gross }
 {
     let span = span_of(rule);
-    let begun = span.from <= gross;
-    match span.to {
-        Some(to) => begun && (gross as u64) < to,
-        None => begun,
-    }
+    span.from <= gross && span.to.is_none_or(|to| u64::from(gross) < to)
 }
 
 // How fast a rule's share rises for each unit where it holds, in ten-thousandths of a unit.
@@ -60,8 +54,8 @@ pub(crate) fn pace_of(rule: Rule) -> i64
     ensures { result ≡ pace (meant rule) }
 {
     match rule {
-        Rule::Take { rate, .. } | Rule::Fade { rate, .. } => -(rate as i64),
-        Rule::Give { rate, .. } => rate as i64,
+        Rule::Take { rate, .. } | Rule::Fade { rate, .. } => -i64::from(rate),
+        Rule::Give { rate, .. } => i64::from(rate),
         Rule::TakeSum { .. } | Rule::GiveSum { .. } => 0,
     }
 }

@@ -4,42 +4,39 @@ use std::test::Fail;
 
 #[test]
 fn no_rules(rt: HostRuntime) -> Result<(), Fail> {
-    let words = laid(&rt, 0, &[])?;
-    cut(&rt, &words, &[(1, 0, 10_000)])?;
-    hold(&rt, &words, &[(0, 0)])?;
-    let words = laid(&rt, MOST, &[])?;
-    cut(&rt, &words, &[(MOST + 1, 0, 10_000)])?;
+    let book = laid(&rt, 0, &[])?;
+    cut(&rt, &book, &[(1, 0, 10_000)])?;
+    hold(&rt, &book, &[(0, 0)]);
+    let book = laid(&rt, MOST, &[])?;
+    cut(&rt, &book, &[(MOST + 1, 0, 10_000)])?;
     next(
         &rt,
-        &words,
+        &book,
         &[
             (0, MOST + 1),
             (7, MOST + 1),
             (MOST, MOST + 1),
             (u32::MAX, MOST + 1),
         ],
-    )
+    );
+    Ok(())
 }
 
 // 10, 20 and 30 are breakpoints of two rules each: one segment begins there, and no empty one.
 #[test]
 fn together(rt: HostRuntime) -> Result<(), Fail> {
-    let rules = [
-        (TAKE, 10, 20, 1000),
-        (GIVE, 20, 30, 500),
-        (TAKE_SUM, 10, 30, 1),
-    ];
-    let words = laid(&rt, 40, &rules)?;
+    let rules = [take(10, 20, 1000), give(20, 30, 500), take_sum(10, 30, 1)];
+    let book = laid(&rt, 40, &rules)?;
     let segments = [
         (10, 0, 10_000),
         (20, 90_000, 9_000),
         (30, 180_000, 10_500),
         (41, 295_000, 10_000),
     ];
-    cut(&rt, &words, &segments)?;
+    cut(&rt, &book, &segments)?;
     next(
         &rt,
-        &words,
+        &book,
         &[
             (9, 10),
             (10, 20),
@@ -49,26 +46,27 @@ fn together(rt: HostRuntime) -> Result<(), Fail> {
             (30, 41),
             (41, 41),
         ],
-    )?;
+    );
     hold(
         &rt,
-        &words,
+        &book,
         &[(9, 0), (10, 5), (19, 5), (20, 6), (29, 6), (30, 0), (40, 0)],
-    )
+    );
+    Ok(())
 }
 
 // The segment at the bound has one gross, and the slope of the rules that hold there.
 #[test]
 fn at_the_edges(rt: HostRuntime) -> Result<(), Fail> {
     let rules = [
-        (GIVE_SUM, 0, 5, 2),
-        (TAKE, 40, 50, 3_000),
-        (TAKE, 41, MOST, 20_000),
+        give_sum(0, 5, 2),
+        take(40, 50, 3_000),
+        take(41, MOST, 20_000),
     ];
-    let words = laid(&rt, 40, &rules)?;
+    let book = laid(&rt, 40, &rules)?;
     cut(
         &rt,
-        &words,
+        &book,
         &[
             (5, 20_000, 10_000),
             (40, 50_000, 10_000),
@@ -77,7 +75,7 @@ fn at_the_edges(rt: HostRuntime) -> Result<(), Fail> {
     )?;
     hold(
         &rt,
-        &words,
+        &book,
         &[
             (0, 1),
             (4, 1),
@@ -88,52 +86,53 @@ fn at_the_edges(rt: HostRuntime) -> Result<(), Fail> {
             (MOST - 1, 4),
             (MOST, 0),
         ],
-    )?;
-    let words = laid(&rt, 4, &rules)?;
-    cut(&rt, &words, &[(5, 20_000, 10_000)])?;
-    let words = laid(&rt, 5, &rules)?;
-    cut(&rt, &words, &[(5, 20_000, 10_000), (6, 50_000, 10_000)])
+    );
+    let book = laid(&rt, 4, &rules)?;
+    cut(&rt, &book, &[(5, 20_000, 10_000)])?;
+    let book = laid(&rt, 5, &rules)?;
+    cut(&rt, &book, &[(5, 20_000, 10_000), (6, 50_000, 10_000)])
 }
 
 // A fade holds from its border to the last unit at which something may be left of it: exactly at a whole unit, inside one,
 // within its first, never, and past 2^32, where its end cut to 32 bits would be 2,705.
 #[test]
 fn fades(rt: HostRuntime) -> Result<(), Fail> {
-    let words = laid(&rt, 40, &[(FADE, 5, 9_000, 9), (TAKE, 0, 100, 2_000)])?;
+    let book = laid(&rt, 40, &[fade(5, 9_000, 9), take(0, 100, 2_000)])?;
     cut(
         &rt,
-        &words,
+        &book,
         &[
             (5, 90_000, 8_000),
             (16, 130_000, -1_000),
             (41, 128_000, 8_000),
         ],
     )?;
-    hold(&rt, &words, &[(4, 2), (5, 3), (15, 3), (16, 2)])?;
-    let words = laid(&rt, 40, &[(FADE, 5, 9_000, 8)])?;
+    hold(&rt, &book, &[(4, 2), (5, 3), (15, 3), (16, 2)]);
+    let book = laid(&rt, 40, &[fade(5, 9_000, 8)])?;
     cut(
         &rt,
-        &words,
+        &book,
         &[
             (5, 80_000, 10_000),
             (14, 130_000, 1_000),
             (41, 140_000, 10_000),
         ],
     )?;
-    let words = laid(&rt, 40, &[(FADE, 5, 20_000, 1)])?;
+    let book = laid(&rt, 40, &[fade(5, 20_000, 1)])?;
     cut(
         &rt,
-        &words,
+        &book,
         &[
             (5, 10_000, 10_000),
             (6, 60_000, -10_000),
             (41, 60_000, 10_000),
         ],
     )?;
-    let words = laid(&rt, 40, &[(FADE, 5, 0, 9)])?;
-    cut(&rt, &words, &[(5, 90_000, 10_000), (41, 140_000, 10_000)])?;
-    hold(&rt, &words, &[(4, 0), (5, 1), (u32::MAX, 1)])?;
-    let words = laid(&rt, MOST, &[(FADE, 0, 1, 429_497)])?;
-    cut(&rt, &words, &[(MOST + 1, 4_294_970_000, 9_999)])?;
-    hold(&rt, &words, &[(4_294_967_295, 1)])
+    let book = laid(&rt, 40, &[fade(5, 0, 9)])?;
+    cut(&rt, &book, &[(5, 90_000, 10_000), (41, 140_000, 10_000)])?;
+    hold(&rt, &book, &[(4, 0), (5, 1), (u32::MAX, 1)]);
+    let book = laid(&rt, MOST, &[fade(0, 1, 429_497)])?;
+    cut(&rt, &book, &[(MOST + 1, 4_294_970_000, 9_999)])?;
+    hold(&rt, &book, &[(4_294_967_295, 1)]);
+    Ok(())
 }

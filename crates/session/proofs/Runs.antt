@@ -1,14 +1,13 @@
 -- Whole sessions: what the contracts of open and call say of one step, over every list of calls.
-use Rattle.std.proofs.Common.{◌≡◌, ℕ, zero, suc, ◌+◌, ◌*◌, ◌<◌, ◌≤◌, Bool, true, false, eqb, ltb, List, [], ◌∷◌, ◌++◌, length, take, drop, replicate, Some, None, Option, sym, refl, ap, ◌∙◌, subst, inl, inr, arith}
-use Rattle.std.proofs.lemmas.List.{append-nil, drop_at, drop_all, length-append, length-drop, length_push, length-replicate, length-take}
+use Rattle.std.proofs.Common.{◌≡◌, ℕ, zero, suc, ◌+◌, ◌*◌, ◌<◌, ◌≤◌, Bool, true, false, eqb, ltb, List, [], ◌∷◌, ◌++◌, length, drop, replicate, sym, refl, ap, ◌∙◌, subst, inl, inr, arith}
+use Rattle.std.proofs.lemmas.List.{append-nil, drop_at, drop_all, length-replicate}
 use Rattle.std.proofs.lemmas.Bool.{cases_Bool, le-ltb, ltb-false, ne_eqb}
 use Rattle.std.proofs.lemmas.Bool.Decides.{nat_tests}
 use Rattle.raise.specs.Rules.{Rule}
-use Rattle.raise.specs.Calls.{Call, Answer, Limits, lays, lifts, left_of, next_row, safe, garbled, refused, number, fine, turned, place, changed, after, told, row_from, answer, answers}
+use Rattle.raise.specs.Calls.{Call, Answer, Limits, lays, lifts, left_of, next_row, safe, garbled, number, fine, turned, changed, after, told, row_from, answer, answers}
 use Rattle.raise.specs.Promise.{Memory, GoodLimits, told_by, left_by, ran, thin, all_below, Right, RefusalKeeps, EnoughMemory}
 use Rattle.book.specs.Held.{Book, Good, asked, image, with_rules, all_fine}
-use Rattle.book.proofs.Places.{fine_push, fine_lifted}
-use Rattle.book.proofs.Laws.{image_reads, image_long, image_below}
+use Rattle.book.proofs.Laws.{good_laid, good_lifted, image_reads, image_long, image_below}
 use Rattle.session.specs.Memory.{limited, opening, empty, open_words, opened_words, limits, says_in, next_in, says_words, next_words, desk, told_words, left_words, is_three, unless_refused, Serves, Opened, Suffices}
 
 -- ---- one call, on the image of a book with anything behind it
@@ -37,15 +36,6 @@ keeps_behind : (b : Book) (ys : List ℕ) (c : Call) → Good b → 0 < turned (
 keeps_behind b ys c g h = next_behind b ys c g ∙ ap (λ (rs : List Rule). image (with_rules b rs) ++ ys) (kept_rules (limits b) b.rules c h)
 
 -- ---- a good book stays good
-
-good_laid : (b : Book) (r : Rule) → Good b → fine r ≡ true → length b.rules < b.limit → Good (with_rules b (b.rules ++ (r ∷ [])))
-good_laid b r g f l = record { few = g.few; low = g.low; room = omega (arith, length_push b.rules r); fine = fine_push b.rules r g.fine f }
-
-good_lifted : (b : Book) (i : ℕ) → Good b → Good (with_rules b (take i b.rules ++ drop (suc i) b.rules))
-good_lifted b i g =
-    let rs = b.rules in
-    let n : length (take i rs ++ drop (suc i) rs) ≤ b.limit = omega (arith, length-append (take i rs) (drop (suc i) rs), length-take i rs, length-drop (suc i) rs, g.room) in
-    record { few = g.few; low = g.low; room = n; fine = fine_lifted rs i g.fine }
 
 -- if the changed book is good where the call is accepted, the book after it is
 by_acceptance : (b : Book) (c : Call) → Good b → (eqb (turned (limits b) b.rules c) 0 ≡ true → Good (with_rules b (changed b.rules c))) → Good (book_after b c)
@@ -217,15 +207,3 @@ enough_memory l cs h r =
     let g = good_ran (empty l) cs (good_empty l h) in
     let e : left_words (image (empty l) ++ []) cs ≡ image b = left_behind (empty l) [] cs (good_empty l h) ∙ append-nil (image b) in
     subst P (sym (left_opened l cs h ∙ ap (λ (ws : List ℕ). record { words = ws }) e)) (omega (arith, image_long b g), image_below b g)
-
--- ---- bytes that are no call
-
-pub garbled_says : (n : ℕ) (o : Option Book) → says_in (garbled n) o ≡ refused 1 n
-unfolding turned place
-garbled_says n None = refl
-garbled_says n (Some b) = refl
-
-pub garbled_keeps : (ws : List ℕ) (n : ℕ) (o : Option Book) → next_in ws (garbled n) o ≡ ws
-unfolding turned
-garbled_keeps ws n None = refl
-garbled_keeps ws n (Some b) = refl

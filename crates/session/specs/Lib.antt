@@ -1,2 +1,3 @@
 pub mod Memory
 pub mod Bytes
+pub mod Answered

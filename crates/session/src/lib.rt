@@ -16,21 +16,18 @@ ghost use Rattle.session.specs.Bytes.{says_bytes, next_bytes, if_room, RightByte
 
 use book::{open_empty, words_asked};
 use replies::{at_most, reply};
-use wire::{Answer, Refusal, read_call};
+use wire::{Answer, Refusal};
 
-// How many words a limit of so many rules asks for, if there are so many.
+// How many words a limit of so many rules asks for, if there are so many: each check of an opening hands on a value.
 fn room_for(words: &[u64], rules: u32) -> Option<usize>
     ensures { result ≡ pick (nat_le (asked rules) (length words.now)) (Some (asked rules)) None }
 {
     let count = words_asked(rules);
-    if words.len() < count {
-        None
-    } else {
-        Some(count)
-    }
+    (words.len() >= count).then_some(count)
 }
 
-// Checks the limits and the room in this order, and writes an empty book.
+// Checks the limits and the room in this order, and writes an empty book. Apart from `open`, which would owe its theorems anew
+// at each of these four returns.
 fn open_book(words: &mut [u64], rules: u32, bound: u32) -> Result<(), Refusal>
     ensures said { said_open result ≡ opening words.old (limited rules bound) }
     ensures words { words.new ≡ open_words words.old (limited rules bound) }
@@ -58,17 +55,12 @@ pub fn open(words: &mut [u64], rules: u32, bound: u32) -> Result<(), Refusal>
     open_book(words, rules, bound)
 }
 
-// Bytes that can't be read are refused before the words are looked at.
+// The answer to the call that the bytes are, or the refusal as an answer.
 fn read_and_reply(words: &mut [u64], bytes: &[u8]) -> Answer
     ensures said { says result ≡ says_words words.old (call_of bytes.now) }
     ensures words { words.new ≡ next_words words.old (call_of bytes.now) }
 {
-    match read_call(bytes) {
-        Ok(call) => reply(words, call),
-        Err(garbled) => Answer::Refused(Refusal::Unreadable {
-            place: garbled.place,
-        }),
-    }
+    reply(words, bytes).unwrap_or_else(Answer::Refused)
 }
 
 // Answers the call that the bytes are. For every list of calls the answers are those of the written book, a call that
@@ -85,22 +77,9 @@ pub fn call(words: &mut [u64], bytes: &[u8]) -> Answer
     read_and_reply(words, bytes)
 }
 
-// Nothing is asked of the book where there is no room for the answer.
-fn serve_call(words: &mut [u64], bytes: &[u8], out: &mut [u8]) -> usize
-    ensures count { result ≡ if_room out.old 24 0 }
-    ensures out { out.new ≡ if_room out.old (says_bytes words.old bytes.now ++ drop 24 out.old) out.old }
-    ensures words { words.new ≡ if_room out.old (next_bytes words.old bytes.now) words.old }
-{
-    if out.len() < 24 {
-        return 0;
-    }
-    let answer = read_and_reply(words, bytes);
-    out[0..24].copy_from_slice(&answer.to_bytes());
-    24
-}
-
 // The same with the answer's 24 bytes in `out`, and how many were written: none, and nothing is changed, where `out` is
-// too short.
+// too short: then nothing is asked of the book. A count and no `Option`: its clauses give callers just that.
+#[tactic(auto, using(crate::proofs::OnBytes::right_bytes, crate::proofs::OnBytes::read_back_bytes, crate::proofs::OnBytes::refusal_keeps_bytes))]
 pub fn serve(words: &mut [u64], bytes: &[u8], out: &mut [u8]) -> usize
     ensures count { result ≡ if_room out.old 24 0 }
     ensures out { out.new ≡ if_room out.old (says_bytes words.old bytes.now ++ drop 24 out.old) out.old }
@@ -110,5 +89,10 @@ pub fn serve(words: &mut [u64], bytes: &[u8], out: &mut [u8]) -> usize
     ensures keeps { RefusalKeepsBytes }
     ensures enough { EnoughMemoryBytes }
 {
-    serve_call(words, bytes, out)
+    if out.len() < 24 {
+        return 0;
+    }
+    let answer = read_and_reply(words, bytes);
+    out[..24].copy_from_slice(&answer.to_bytes());
+    24
 }

@@ -9,6 +9,7 @@ pub(crate) const MOST: u32 = 1_000_000_000;
 // Words for four rules, and four more.
 pub(crate) const WORDS: usize = 196;
 
+// Kinds as the bytes of a call have them, which is what is tested here.
 pub(crate) const TAKE: u8 = 0;
 
 pub(crate) const GIVE: u8 = 1;
@@ -34,21 +35,20 @@ pub(crate) fn opened(rules: u32, bound: u32) -> Result<[u64; WORDS], Fail> {
 }
 
 pub(crate) fn lay(kind: u8, from: u32, second: u32, last: u32) -> [u8; 14] {
-    let a = from.to_le_bytes();
-    let b = second.to_le_bytes();
-    let c = last.to_le_bytes();
-    [
-        0, kind, a[0], a[1], a[2], a[3], b[0], b[1], b[2], b[3], c[0], c[1], c[2], c[3],
-    ]
+    let mut bytes = [0; 14];
+    bytes[1] = kind;
+    bytes[2..].copy_from_slice([from, second, last].map(u32::to_le_bytes).as_flattened());
+    bytes
 }
 
 pub(crate) fn ask(kind: u8, value: u32) -> [u8; 5] {
-    let v = value.to_le_bytes();
-    [kind, v[0], v[1], v[2], v[3]]
+    let mut bytes = [kind; 5];
+    bytes[1..].copy_from_slice(&value.to_le_bytes());
+    bytes
 }
 
 pub(crate) fn says(rt: &impl Abort, words: &mut [u64], bytes: &[u8], answer: Answer) {
-    assert_eq!(rt; call(words, bytes).to_bytes(), answer.to_bytes());
+    assert_eq!(rt; call(words, bytes), answer);
 }
 
 // Each call of one field, and its answer.
@@ -60,14 +60,9 @@ pub(crate) fn all_say(rt: &impl Abort, words: &mut [u64], table: &[(u8, u32, Ans
 
 // Rules that are laid one behind the other, the first as 0.
 pub(crate) fn all_laid(rt: &impl Abort, words: &mut [u64], rules: &[(u8, u32, u32, u32)]) {
-    for i in 0..rules.len() {
-        let (kind, from, second, last) = rules[i];
-        says(
-            rt,
-            words,
-            &lay(kind, from, second, last),
-            Answer::Number(i as u64),
-        );
+    for (i, (kind, from, second, last)) in rules.iter().enumerate() {
+        let bytes = lay(*kind, *from, *second, *last);
+        says(rt, words, &bytes, Answer::Number(i as u64));
     }
 }
 

@@ -100,15 +100,10 @@ fn by_hand(
 ) -> Result<(), Fail> {
     let mut words = opened(1, bound)?;
     words[3] = 1;
-    words[4] = slot[0];
-    words[5] = slot[1];
-    words[6] = slot[2];
-    words[7] = slot[3];
+    words[4..8].copy_from_slice(&slot);
     all_say(rt, &mut words, table);
-    assert_eq!(rt;
-        &words[3..8],
-        [1, slot[0], slot[1], slot[2], slot[3]].as_slice()
-    );
+    assert_eq!(rt; words[3], 1);
+    assert_eq!(rt; &words[4..8], slot.as_slice());
     Ok(())
 }
 

@@ -4,7 +4,7 @@ use session::open;
 use std::process::Abort;
 use std::test::Fail;
 
-// An opening that is refused leaves every word as it was.
+// An opening that is refused leaves every word as it was. The refusal is told by its number and place, as they are written.
 fn not_opened(
     rt: &impl Abort,
     size: usize,

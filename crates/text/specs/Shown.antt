@@ -1,7 +1,7 @@
 -- Answers as text: the line that tells the answer to a call. Definitions only: nothing is assumed.
 --
 -- A number is written in decimal. A row and a safe earning come as one more than they are, and 0 where there is none.
-use Rattle.std.specs.Prelude.{◌≡◌, ℕ, ◌+◌, ◌-◌, ◌/◌, ◌%◌, ◌<◌, List, ◌++◌, codes, decimal, ◌==◌, nat_lt}
+use Rattle.std.specs.Prelude.{◌≡◌, ℕ, ◌+◌, ◌-◌, ◌/◌, ◌%◌, ◌<◌, List, ◌++◌, Option, None, Some, codes, decimal, ◌==◌, nat_lt}
 use Rattle.raise.specs.Rules.{pick}
 use Rattle.raise.specs.Calls.{Call, lays, lifts, left_of, next_row, safe, garbled, Answer, refused, number, two}
 
@@ -13,11 +13,24 @@ parted n = decimal (n / 10000) ++ (codes "." ++ (decimal (n / 1000 % 10) ++ (dec
 abbrev pub amount : ℕ → ℕ → List ℕ
 amount i o = pick (nat_lt i o) (codes "-" ++ parted (o - i)) (parted (i - o))
 
+-- the text of a value, or "none"
+abbrev pub or_none : {A : Type 0} → (A → Option (List ℕ)) → Option A → Option (List ℕ)
+or_none text None = Some (codes "none")
+or_none text (Some x) = text x
+
+-- a row from its first to its last earning
+abbrev pub row_text : ℕ → ℕ → List ℕ
+row_text first last = decimal first ++ (codes " to " ++ decimal last)
+
+-- the earning from which on it is safe
+abbrev pub safe_text : ℕ → List ℕ
+safe_text earning = codes "safe from " ++ decimal earning
+
 abbrev pub row_line : ℕ → ℕ → List ℕ
-row_line m n = pick (m == 0) (codes "none") (decimal (m - 1) ++ (codes " to " ++ decimal (n - 1)))
+row_line m n = pick (m == 0) (codes "none") (row_text (m - 1) (n - 1))
 
 abbrev pub safe_line : ℕ → List ℕ
-safe_line n = pick (n == 0) (codes "none") (codes "safe from " ++ decimal (n - 1))
+safe_line n = pick (n == 0) (codes "none") (safe_text (n - 1))
 
 abbrev pub rule_line : ℕ → List ℕ
 rule_line n = codes "rule " ++ decimal n

@@ -1,8 +1,8 @@
 -- Answers are read back from their bytes.
-use Rattle.std.proofs.Common.{◌≡◌, ℕ, zero, suc, ◌<◌, true, eqb, ltb, List, [], ◌∷◌, ◌++◌, length, Some, None, refl, ap, ◌∙◌, subst, inl, inr, arith}
+use Rattle.std.proofs.Common.{◌≡◌, ℕ, ◌<◌, true, eqb, ltb, List, [], ◌∷◌, ◌++◌, length, Some, None, refl, ap, ◌∙◌, inl, inr, arith}
 use Rattle.std.specs.List.{flat_map}
 use Rattle.std.proofs.lemmas.List.{append-nil}
-use Rattle.std.proofs.lemmas.Bool.{and_parts, and_from, ltb-true, lt-ltb, eqb-true, ne_eqb, cases_Bool}
+use Rattle.std.proofs.lemmas.Bool.{and_parts, ltb-true, eqb-true, cases_Bool}
 use Rattle.std.proofs.lemmas.Bool.Decides.{nat_tests}
 use Rattle.raise.specs.Calls.{Answer, refused, number, two}
 use Rattle.wire.specs.declared.answers.Refusal.TheVariants.{Unreadable, OutOfRange, TooManyRules, BoundTooHigh, MemoryTooSmall, NoSuchRule, BookFull}
@@ -29,42 +29,17 @@ answers_read_back (refused k n) h =
     let p = and_parts (is_refusal k n) (ltb n 18446744073709551616) h in
     let i = p.0 in
     words_back 0 k n (omega arith) (refusal_low k n i) (ltb-true n 18446744073709551616 p.1) ∙ rw i
-answers_read_back (number n) h = words_back 1 n 0 (omega arith) (ltb-true n 18446744073709551616 h) (omega arith)
-answers_read_back (two m n) h =
-    let p = and_parts (ltb m 18446744073709551616) (ltb n 18446744073709551616) h in
-    words_back 2 m n (omega arith) (ltb-true m 18446744073709551616 p.0) (ltb-true n 18446744073709551616 p.1)
+answers_read_back (number n) h = grind (arith, nat_tests, words_back)
+answers_read_back (two m n) h = grind (arith, nat_tests, words_back)
 
 -- ---- and nothing else is read
-
-never : (x : Answer) → None ≡ Some x → ⊥
-never x e = let z : ◌≡◌ {A = ℕ} 0 1 = cc in omega arith
 
 -- what three numbers are as an answer has just these numbers
 abbrev SaysJust : ℕ → ℕ → ℕ → Answer → Type 0
 SaysJust a b c x = (sayable x ≡ true) × (answer_numbers x ≡ a ∷ (b ∷ (c ∷ [])))
 
 from_numbers : (a b c : ℕ) (x : Answer) → b < 18446744073709551616 → c < 18446744073709551616 → answer_from a b c ≡ Some x → SaysJust a b c x
-from_numbers zero b c x p q e =
-    elim (cases_Bool (is_refusal b c)) [
-      | inl t ↦
-          let f : Some (refused b c) ≡ Some x = rw t at e in
-          let g : refused b c ≡ x = cc in
-          subst (SaysJust 0 b c) g (and_from (is_refusal b c) (ltb c 18446744073709551616) t (lt-ltb c 18446744073709551616 q), refl)
-      | inr t ↦ absurd (never x (rw t at e))
-    ]
-from_numbers (suc zero) b c x p q e =
-    elim (cases_Bool (eqb c 0)) [
-      | inl t ↦
-          let f : Some (number b) ≡ Some x = rw t at e in
-          let g : number b ≡ x = cc in
-          let z : c ≡ 0 = eqb-true c 0 t in
-          subst (SaysJust 1 b c) g (lt-ltb b 18446744073709551616 p, rw z refl)
-      | inr t ↦ absurd (never x (rw t at e))
-    ]
-from_numbers (suc (suc zero)) b c x p q e =
-    let g : two b c ≡ x = cc in
-    subst (SaysJust 2 b c) g (and_from (ltb b 18446744073709551616) (ltb c 18446744073709551616) (lt-ltb b 18446744073709551616 p) (lt-ltb c 18446744073709551616 q), refl)
-from_numbers (suc (suc (suc a))) b c x p q e = absurd (never x (rw (ne_eqb (suc (suc (suc a))) 0 (λ s. omega arith), ne_eqb (suc (suc (suc a))) 1 (λ s. omega arith), ne_eqb (suc (suc (suc a))) 2 (λ s. omega arith)) at e))
+from_numbers a b c x p q e = grind (arith, nat_tests)
 
 pub only_answers_read : OnlyAnswersRead
 only_answers_read bs x h e =
@@ -75,7 +50,7 @@ only_answers_read bs x h e =
           let c = number_fits 8 16 bs (omega arith) h in
           let s = from_numbers (number_at 8 bs 0) (number_at 8 bs 8) (number_at 8 bs 16) x b c (rw t at e) in
           (s.0, ap (flat_map (bytes_of 8)) s.1 ∙ ap (λ (t : List ℕ). bytes_of 8 (number_at 8 bs 0) ++ (bytes_of 8 (number_at 8 bs 8) ++ t)) (append-nil (bytes_of 8 (number_at 8 bs 16))) ∙ row_back 8 bs l h)
-      | inr t ↦ absurd (never x (rw t at e))
+      | inr t ↦ let n : None ≡ Some x = rw t at e in (cc)
     ]
 
 pub refusals_read : RefusalsRead

@@ -1,7 +1,8 @@
 -- Calls are read back from their bytes, nothing else is read as a call, and the place of a refusal is right.
 use Rattle.std.proofs.Common.{◌≡◌, ℕ, zero, suc, ◌+◌, ◌-◌, ◌<◌, ◌≤◌, true, false, ◌&&◌, eqb, ltb, ◌⊎◌, List, [], ◌∷◌, ◌++◌, length, get_or, take, replicate, Ok, Err, Result, sym, refl, ap, ◌∙◌, subst, inl, inr, arith}
 use Rattle.std.proofs.lemmas.List.{take_all, length-append, length-replicate, length-take-le}
-use Rattle.std.proofs.lemmas.Bool.{and_parts, lt-ltb, le-ltb, ltb-true, ne_eqb, true≢false, cases_order, cases_lt}
+use Rattle.std.proofs.lemmas.Bool.Decides.{nat_tests}
+use Rattle.std.proofs.lemmas.Bool.{and_parts, lt-ltb, le-ltb, ltb-true, true≢false, cases_order, cases_lt}
 use Rattle.raise.specs.Rules.{pick, Rule, takes, gives, takes_sum, gives_sum, fades}
 use Rattle.raise.specs.Calls.{Call, lays, lifts, left_of, next_row, safe, garbled, rule_number}
 use Rattle.raise.specs.Promise.{field, readable, readable_rule, all_below}
@@ -13,7 +14,7 @@ use Rattle.wire.proofs.Numbers.{bytes_long, number_back, bytes_back, number_belo
 -- ---- bytes by their number
 
 size_same : {A : Type 0} (k : ℕ) (bs : List ℕ) (x : A) (f : ℕ → A) → length bs ≡ k → sized k bs x f ≡ x
-size_same k bs x f l = let s : ltb (length bs) k ≡ false = le-ltb (length bs) k (omega arith) in let t : ltb k (length bs) ≡ false = le-ltb k (length bs) (omega arith) in rw (s, t)
+size_same k bs x f l = grind (arith, nat_tests)
 
 size_cases : {A : Type 0} (P : A → Type 0) (k : ℕ) (bs : List ℕ) (x : A) (f : ℕ → A) → (length bs ≡ k → P x) → (length bs < k → P (f (length bs))) → (k < length bs → P (f k)) → P (sized k bs x f)
 size_cases P k bs x f same short over =
@@ -34,16 +35,10 @@ by_kind b xs =
     (pick (eqb b 4) (with_field safe (one_field (b ∷ xs))) (garbled 0)))))
 
 at_kind : (b : ℕ) (xs : List ℕ) → call_of (b ∷ xs) ≡ by_kind b xs
-at_kind b xs = let n : eqb (suc (length xs)) 0 ≡ false = ne_eqb (suc (length xs)) 0 (λ e. omega arith) in rw n
+at_kind b xs = grind (arith, nat_tests)
 
 no_kind : (b : ℕ) (xs : List ℕ) → 4 < b → call_of (b ∷ xs) ≡ garbled 0
-no_kind b xs l =
-    let p : eqb b 0 ≡ false = ne_eqb b 0 (λ e. omega arith) in
-    let q : eqb b 1 ≡ false = ne_eqb b 1 (λ e. omega arith) in
-    let r : eqb b 2 ≡ false = ne_eqb b 2 (λ e. omega arith) in
-    let s : eqb b 3 ≡ false = ne_eqb b 3 (λ e. omega arith) in
-    let t : eqb b 4 ≡ false = ne_eqb b 4 (λ e. omega arith) in
-    at_kind b xs ∙ rw (p, q, r, s, t)
+no_kind b xs l = grind (arith, nat_tests)
 
 -- ---- rules
 
@@ -51,16 +46,10 @@ abbrev whole_rule : ℕ → List ℕ → Rule
 whole_rule k xs = rule_from k (number_of (take 4 xs)) (number_at 4 xs 4) (number_at 4 xs 8)
 
 rule_known : (k : ℕ) (xs : List ℕ) → k ≤ 4 → rule_of (k ∷ xs) ≡ sized {A = Result Rule ℕ} 13 (k ∷ xs) (Ok (whole_rule k xs)) (λ n. Err n)
-rule_known k xs l =
-    let n : eqb (suc (length xs)) 0 ≡ false = ne_eqb (suc (length xs)) 0 (λ e. omega arith) in
-    let h : ltb 4 k ≡ false = le-ltb 4 k l in
-    rw (n, h)
+rule_known k xs l = grind (arith, nat_tests)
 
 rule_high : (k : ℕ) (xs : List ℕ) → 4 < k → rule_of (k ∷ xs) ≡ Err 0
-rule_high k xs l =
-    let n : eqb (suc (length xs)) 0 ≡ false = ne_eqb (suc (length xs)) 0 (λ e. omega arith) in
-    let h : ltb 4 k ≡ true = lt-ltb 4 k l in
-    rw (n, h)
+rule_high k xs l = grind (arith, nat_tests)
 
 rule_whole : (k : ℕ) (xs : List ℕ) → k ≤ 4 → length xs ≡ 12 → call_of (0 ∷ k ∷ xs) ≡ lays (whole_rule k xs)
 rule_whole k xs l e = at_kind 0 (k ∷ xs) ∙ ap laid (rule_known k xs l ∙ size_same 13 (k ∷ xs) (Ok (whole_rule k xs)) (λ n. Err n) (omega arith))
@@ -68,18 +57,10 @@ rule_whole k xs l e = at_kind 0 (k ∷ xs) ∙ ap laid (rule_known k xs l ∙ si
 -- a rule is written by its kind and its three numbers
 rule_parts : (k a b c : ℕ) → k ≤ 4 → (rule_bytes (rule_from k a b c) ≡ k ∷ three a b c) × (readable_rule (rule_from k a b c) ≡ (field a && (field b && field c)))
 unfolding rule_number readable_rule
-rule_parts zero a b c l = (refl, refl)
-rule_parts (suc zero) a b c l = (refl, refl)
-rule_parts (suc (suc zero)) a b c l = (refl, refl)
-rule_parts (suc (suc (suc zero))) a b c l = (refl, refl)
-rule_parts (suc (suc (suc (suc zero)))) a b c l = (refl, refl)
-rule_parts (suc (suc (suc (suc (suc k))))) a b c l = absurd (omega arith)
+rule_parts k a b c l = grind (arith, nat_tests)
 
 fields_fit : (a b c : ℕ) → (field a && (field b && field c)) ≡ true → (a < 4294967296) × (b < 4294967296) × (c < 4294967296)
-fields_fit a b c h =
-    let p = and_parts (field a) (field b && field c) h in
-    let q = and_parts (field b) (field c) p.1 in
-    (ltb-true a 4294967296 p.0, ltb-true b 4294967296 q.0, ltb-true c 4294967296 q.1)
+fields_fit a b c h = grind (arith, nat_tests)
 
 rule_back : (k a b c : ℕ) → k ≤ 4 → (field a && (field b && field c)) ≡ true → call_of (0 ∷ k ∷ three a b c) ≡ lays (rule_from k a b c)
 rule_back k a b c l h =
@@ -95,22 +76,12 @@ abbrev numbered : ℕ → ℕ → Call
 numbered b n = pick (eqb b 1) (lifts n) (pick (eqb b 2) (left_of n) (pick (eqb b 3) (next_row n) (safe n)))
 
 at_number : (b : ℕ) (xs : List ℕ) → 0 < b → b ≤ 4 → call_of (b ∷ xs) ≡ with_field (numbered b) (one_field (b ∷ xs))
-at_number zero xs l m = absurd (omega arith)
-at_number (suc zero) xs l m = at_kind 1 xs
-at_number (suc (suc zero)) xs l m = at_kind 2 xs
-at_number (suc (suc (suc zero))) xs l m = at_kind 3 xs
-at_number (suc (suc (suc (suc zero)))) xs l m = at_kind 4 xs
-at_number (suc (suc (suc (suc (suc b))))) xs l m = absurd (omega arith)
+at_number b xs l m = grind (arith, nat_tests)
 
 -- such a call is written by its kind and its number
 number_parts : (b n : ℕ) → 0 < b → b ≤ 4 → (call_bytes (numbered b n) ≡ b ∷ bytes_of 4 n) × (readable (numbered b n) ≡ field n) × (is_garbled (numbered b n) ≡ false)
 unfolding readable
-number_parts zero n l m = absurd (omega arith)
-number_parts (suc zero) n l m = (refl, refl, refl)
-number_parts (suc (suc zero)) n l m = (refl, refl, refl)
-number_parts (suc (suc (suc zero))) n l m = (refl, refl, refl)
-number_parts (suc (suc (suc (suc zero)))) n l m = (refl, refl, refl)
-number_parts (suc (suc (suc (suc (suc b))))) n l m = absurd (omega arith)
+number_parts b n l m = grind (arith, nat_tests)
 
 number_call : (b n : ℕ) → 0 < b → b ≤ 4 → field n ≡ true → call_of (b ∷ bytes_of 4 n) ≡ numbered b n
 number_call b n l m h =
@@ -185,16 +156,16 @@ Reads bs c = all_below 256 bs ≡ true → (readable c ≡ true) × (is_garbled 
 
 reads_none : (bs : List ℕ) (n : ℕ) → n < 15 → Reads bs (garbled n)
 unfolding readable
-reads_none bs n l h = (lt-ltb n 4294967296 (omega arith), λ e. absurd (true≢false e))
+reads_none bs n l h = grind (arith, nat_tests)
 
 reads_rule : (k : ℕ) (xs : List ℕ) → k ≤ 4 → length xs ≡ 12 → all_below 256 xs ≡ true → (readable (lays (whole_rule k xs)) ≡ true) × (call_bytes (lays (whole_rule k xs)) ≡ 0 ∷ k ∷ xs)
 unfolding readable
 reads_rule k xs l e h =
     let p = rule_parts k (number_of (take 4 xs)) (number_at 4 xs 4) (number_at 4 xs 8) l in
-    let a = lt-ltb (number_at 4 xs 0) 4294967296 (number_fits 4 0 xs (omega arith) h) in
-    let b = lt-ltb (number_at 4 xs 4) 4294967296 (number_fits 4 4 xs (omega arith) h) in
-    let c = lt-ltb (number_at 4 xs 8) 4294967296 (number_fits 4 8 xs (omega arith) h) in
-    let f : (field (number_at 4 xs 0) && (field (number_at 4 xs 4) && field (number_at 4 xs 8))) ≡ true = rw (a, b, c) in
+    let a = number_fits 4 0 xs (omega arith) h in
+    let b = number_fits 4 4 xs (omega arith) h in
+    let c = number_fits 4 8 xs (omega arith) h in
+    let f : (field (number_at 4 xs 0) && (field (number_at 4 xs 4) && field (number_at 4 xs 8))) ≡ true = grind (arith, nat_tests) in
     (p.1 ∙ f, ap (λ (t : List ℕ). 0 ∷ t) (p.0 ∙ ap (λ (t : List ℕ). k ∷ t) (row_back 4 xs e h)))
 
 reads_number : (b : ℕ) (xs : List ℕ) → 0 < b → b ≤ 4 → length xs ≡ 4 → all_below 256 xs ≡ true → (readable (numbered b (number_of xs)) ≡ true) × (call_bytes (numbered b (number_of xs)) ≡ b ∷ xs)

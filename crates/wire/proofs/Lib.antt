@@ -1,5 +1,4 @@
 pub mod Wide
-pub mod Writes
 pub mod Cuts
 pub mod Numbers
 pub mod CallLaws

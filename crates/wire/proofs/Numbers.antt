@@ -1,7 +1,7 @@
 -- Numbers as bytes, in any width: written and read back, and read and written back.
 use Rattle.std.proofs.Common.{◌≡◌, ℕ, zero, suc, ◌+◌, ◌*◌, ◌/◌, ◌%◌, ◌^◌, ◌<◌, ◌≤◌, true, ltb, List, [], ◌∷◌, ◌++◌, length, take, drop, sym, refl, ap, ◌∙◌, arith}
 use Rattle.std.proofs.lemmas.List.{take_at, drop_at, take_all, drop-drop, take-append-drop, length-append, length-take-le, length-drop}
-use Rattle.std.proofs.lemmas.Bool.{and_parts, and_from, lt-ltb, ltb-true}
+use Rattle.std.proofs.lemmas.Bool.{and_parts, ltb-true}
 use Rattle.raise.specs.Promise.{all_below}
 use Rattle.raise.proofs.Below.{below_take, below_drop}
 use Rattle.wire.specs.Fields.{bytes_of, number_of, number_at}
@@ -16,12 +16,6 @@ pub number_back : (k n : ℕ) → n < 256 ^ k → number_of (bytes_of k n) ≡ n
 unfolding bytes_of number_of
 number_back zero n l = omega arith
 number_back (suc k) n l = omega (arith, number_back k (n / 256) (omega arith))
-
--- every byte is one
-pub bytes_below : (k n : ℕ) → all_below 256 (bytes_of k n) ≡ true
-unfolding bytes_of all_below
-bytes_below zero n = refl
-bytes_below (suc k) n = and_from (ltb (n % 256) 256) (all_below 256 (bytes_of k (n / 256))) (lt-ltb (n % 256) 256 (omega arith)) (bytes_below k (n / 256))
 
 -- and writing what was read gives it back
 pub bytes_back : (k : ℕ) (bs : List ℕ) → length bs ≡ k → all_below 256 bs ≡ true → bytes_of k (number_of bs) ≡ bs

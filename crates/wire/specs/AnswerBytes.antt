@@ -1,12 +1,13 @@
 -- Answers as bytes: three numbers of eight bytes each, low byte first. Nothing is assumed.
 --
 -- 0, why and the place; or 1, a number and 0; or 2 and two numbers.
-use Rattle.std.specs.Prelude.{◌≡◌, ℕ, Bool, true, ◌&&◌, ◌||◌, List, [], ◌∷◌, length, Some, None, Option, ◌==◌, nat_le, nat_lt}
+use Rattle.std.specs.Prelude.{◌≡◌, ℕ, Bool, true, false, ◌&&◌, ◌||◌, List, [], ◌∷◌, length, Some, None, Option, Result, MatchResult, ◌==◌, nat_le, nat_lt}
 use Rattle.std.specs.List.{flat_map}
 use Rattle.raise.specs.Rules.{pick}
 use Rattle.raise.specs.Calls.{Answer, refused, number, two}
 use Rattle.raise.specs.Promise.{all_below}
 use Rattle.wire.specs.declared.answers.Refusal.{Refusal}
+use Rattle.wire.specs.declared.answers.UnknownRefusal.{UnknownRefusal}
 use Rattle.wire.specs.Fields.{bytes_of, number_at}
 use Rattle.wire.specs.Meaning.{refusal_number, refusal_place}
 
@@ -24,6 +25,11 @@ is_refusal k n = k == 1 || ((k == 3 && nat_le n 2) || ((k == 2 || (k == 4 || k =
 
 abbrev pub refusal_from : ℕ → ℕ → Option Answer
 refusal_from k n = pick (is_refusal k n) (Some (refused k n)) None
+
+-- the refusal of a number and a place, or an error with both where there is none
+abbrev pub ReadsRefusal : ℕ × ℕ → Result Refusal UnknownRefusal → Type 0
+ReadsRefusal p r =
+    MatchResult r (λ e. (is_refusal p.0 p.1 ≡ true) × (refusal_number e ≡ p.0) × (refusal_place e ≡ p.1)) (λ e. (is_refusal p.0 p.1 ≡ false) × (e.number ≡ p.0) × (e.place ≡ p.1))
 
 abbrev pub answer_from : ℕ → ℕ → ℕ → Option Answer
 answer_from a b c =

@@ -20,6 +20,14 @@ rule_fields (takes_sum a b s) = three a b s
 rule_fields (gives_sum a b s) = three a b s
 rule_fields (fades a r s) = three a r s
 
+-- a rule's three numbers
+abbrev pub numbers : Rule → List ℕ
+numbers (takes a b r) = a ∷ (b ∷ (r ∷ []))
+numbers (gives a b r) = a ∷ (b ∷ (r ∷ []))
+numbers (takes_sum a b s) = a ∷ (b ∷ (s ∷ []))
+numbers (gives_sum a b s) = a ∷ (b ∷ (s ∷ []))
+numbers (fades a r s) = a ∷ (r ∷ (s ∷ []))
+
 abbrev pub rule_bytes : Rule → List ℕ
 rule_bytes r = rule_number r ∷ rule_fields r
 

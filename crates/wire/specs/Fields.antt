@@ -1,5 +1,5 @@
 -- Numbers as bytes, low byte first. Nothing is assumed.
-use Rattle.std.specs.Prelude.{ℕ, zero, suc, ◌+◌, ◌*◌, ◌/◌, ◌%◌, List, [], ◌∷◌, take, drop, slice_index}
+use Rattle.std.specs.Prelude.{ℕ, zero, suc, ◌+◌, ◌*◌, ◌/◌, ◌%◌, List, [], ◌∷◌, take, drop}
 
 -- n in k bytes
 unfoldable pub bytes_of : ℕ → ℕ → List ℕ
@@ -14,7 +14,3 @@ number_of (b ∷ bs) = b + 256 * number_of bs
 -- the number that the k bytes from place i on write
 abbrev pub number_at : ℕ → List ℕ → ℕ → ℕ
 number_at k bs i = number_of (take k (drop i bs))
-
--- the same of four bytes, written out
-abbrev pub four_bytes : List ℕ → ℕ → ℕ
-four_bytes bs i = slice_index bs i + slice_index bs (i + 1) * 256 + slice_index bs (i + 2) * 65536 + slice_index bs (i + 3) * 16777216

@@ -3,6 +3,7 @@
 -- call, and one that ends inside a length gives an empty call. Nothing is assumed.
 use Rattle.std.specs.Prelude.{◌≡◌, ℕ, zero, suc, ◌<◌, List, [], ◌∷◌, ◌++◌, length, take, drop}
 use Rattle.std.specs.List.{AllByRecursion}
+use Rattle.wire.specs.declared.files.Calls.{Calls}
 use Rattle.wire.specs.Fields.{bytes_of, number_at}
 
 -- the first call, and what comes after it
@@ -21,6 +22,10 @@ cut (suc k) (b ∷ bs) = first_call (b ∷ bs) ∷ cut k (after_call (b ∷ bs))
 -- all calls: each takes at least a byte, so there are no more of them than bytes
 abbrev pub calls_in : List ℕ → List (List ℕ)
 calls_in bs = cut (length bs) bs
+
+-- the calls that an iterator over them has still to give
+abbrev pub calls_left : Calls → List (List ℕ)
+calls_left calls = calls_in calls.rest.now
 
 -- ---- what is promised of these
 

@@ -1,11 +1,14 @@
 -- What the code's rules, calls and answers stand for, and the number and values of each of their cases. Nothing is assumed.
-use Rattle.std.specs.Prelude.{ℕ, Some, None, Ok, Err, Option, Result}
+use Rattle.std.specs.Prelude.{◌≡◌, ℕ, ◌<◌, Some, None, Ok, Err, Option, Result, MatchResult}
 use Rattle.raise.specs.Rules as rules
 use Rattle.raise.specs.Rules.{takes, gives, takes_sum, gives_sum, fades}
 use Rattle.raise.specs.Calls as calls
 use Rattle.raise.specs.Calls.{lays, lifts, left_of, next_row, safe, garbled, refused, number, two}
 use Rattle.wire.specs.declared.calls.Rule.{Rule}
 use Rattle.wire.specs.declared.calls.Rule.TheVariants.{Take, Give, TakeSum, GiveSum, Fade}
+use Rattle.wire.specs.declared.kinds.RuleKind.{RuleKind}
+use Rattle.wire.specs.declared.kinds.RuleKind.TheVariants as kinds
+use Rattle.wire.specs.declared.kinds.UnknownKind.{UnknownKind}
 use Rattle.wire.specs.declared.calls.Call.{Call}
 use Rattle.wire.specs.declared.calls.Call.TheVariants.{Lay, Lift, Left, Row, Safe}
 use Rattle.wire.specs.declared.calls.Garbled.{Garbled}
@@ -20,6 +23,18 @@ meant (Give a b r) = gives a b r
 meant (TakeSum a b s) = takes_sum a b s
 meant (GiveSum a b s) = gives_sum a b s
 meant (Fade a r s) = fades a r s
+
+-- the number that stands for a kind of rule
+abbrev pub kind_number : RuleKind → ℕ
+kind_number kinds.Take = 0
+kind_number kinds.Give = 1
+kind_number kinds.TakeSum = 2
+kind_number kinds.GiveSum = 3
+kind_number kinds.Fade = 4
+
+-- the kind that a number stands for, or an error where it stands for none
+abbrev pub ReadsKind : ℕ → Result RuleKind UnknownKind → Type 0
+ReadsKind n r = MatchResult r (λ kind. kind_number kind ≡ n) (λ e. (e.0 ≡ n) × (4 < n))
 
 abbrev pub asks : Call → calls.Call
 asks (Lay r) = lays (meant r)
@@ -62,10 +77,6 @@ refusal_place BoundTooHigh = 1
 refusal_place MemoryTooSmall = 2
 refusal_place NoSuchRule = 0
 refusal_place BookFull = 0
-
-abbrev pub refusal_if : Option Refusal → Option calls.Answer
-refusal_if None = None
-refusal_if (Some e) = Some (refused (refusal_number e) (refusal_place e))
 
 abbrev pub says : Answer → calls.Answer
 says (Refused e) = refused (refusal_number e) (refusal_place e)

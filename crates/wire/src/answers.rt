@@ -1,11 +1,16 @@
 // Answers and refusals, and their 24 bytes.
-ghost use Rattle.std.specs.Prelude.{◌≡◌, ◌+◌, ◌≤◌, length};
+ghost use Rattle.std.specs.Prelude.{◌≡◌, ◌≢◌, [], ◌∷◌, length, MatchOption};
+ghost use Rattle.wire.specs.declared.answers.Refusal.TheVariants.{Unreadable};
 ghost use Rattle.wire.specs.Fields.{number_at};
-ghost use Rattle.wire.specs.Meaning.{refusal_number, refusal_place, refusal_if, says, says_if};
-ghost use Rattle.wire.specs.AnswerBytes.{refusal_from, answer_numbers, answer_bytes, answer_of, AnswersReadBack, OnlyAnswersRead, RefusalsRead};
+ghost use Rattle.wire.specs.Meaning.{refusal_number, refusal_place, says, says_if};
+ghost use Rattle.wire.specs.AnswerBytes.{ReadsRefusal, answer_numbers, answer_bytes, answer_of, AnswersReadBack, OnlyAnswersRead, RefusalsRead};
+
+use crate::calls::Garbled;
+use std::error::Error;
+use std::fmt;
 
 // Why a call or an opening was turned away.
-#[derive(Clone, Copy)]
+#[derive(Clone, Copy, Debug, PartialEq, Eq)]
 pub enum Refusal {
     // 1: the bytes are no call, from this place on
     Unreadable { place: u64 },
@@ -22,7 +27,8 @@ pub enum Refusal {
     BookFull,
 }
 
-#[derive(Clone, Copy)]
+// What 24 bytes say. A refusal is one of its cases, as it is there; before it becomes bytes, a call comes to a `Result`.
+#[derive(Clone, Copy, Debug, PartialEq, Eq)]
 pub enum Answer {
     Refused(Refusal),
     Number(u64),
@@ -30,6 +36,7 @@ pub enum Answer {
 }
 
 impl Refusal {
+    // The number and the place by which bytes and lines tell a refusal: methods, since a `From` would give both at once.
     pub fn number(self) -> u64
         ensures { result ≡ refusal_number self }
     {
@@ -53,64 +60,110 @@ impl Refusal {
                 0,
         }
     }
+}
 
-    // The refusal of this number and place, if there is one.
-    fn of(number: u64, place: u64) -> Option<Refusal>
-        ensures { refusal_if result ≡ refusal_from number place }
-    {
+// A number and a place that no refusal has.
+#[derive(Clone, Copy, Debug, PartialEq, Eq)]
+pub struct UnknownRefusal {
+    pub number: u64,
+    pub place: u64,
+}
+
+// By its number and its place.
+impl TryFrom<(u64, u64)> for Refusal {
+    type Error = UnknownRefusal;
+
+    ghost try_from_gives = { ReadsRefusal };
+
+    fn try_from((number, place): (u64, u64)) -> Result<Self, UnknownRefusal> {
         match (number, place) {
-            (1, _) => Some(Refusal::Unreadable { place }),
-            (2, 0) => Some(Refusal::OutOfRange),
-            (3, 0) => Some(Refusal::TooManyRules),
-            (3, 1) => Some(Refusal::BoundTooHigh),
-            (3, 2) => Some(Refusal::MemoryTooSmall),
-            (4, 0) => Some(Refusal::NoSuchRule),
-            (5, 0) => Some(Refusal::BookFull),
-            _ => None,
+            (1, _) => Ok(Refusal::Unreadable { place }),
+            (2, 0) => Ok(Refusal::OutOfRange),
+            (3, 0) => Ok(Refusal::TooManyRules),
+            (3, 1) => Ok(Refusal::BoundTooHigh),
+            (3, 2) => Ok(Refusal::MemoryTooSmall),
+            (4, 0) => Ok(Refusal::NoSuchRule),
+            (5, 0) => Ok(Refusal::BookFull),
+            _ => Err(UnknownRefusal { number, place }),
         }
     }
 }
 
+impl From<Garbled> for Refusal {
+    ghost from_gives = { λ garbled refusal. refusal ≡ Unreadable garbled.place };
+
+    fn from(garbled: Garbled) -> Refusal {
+        Refusal::Unreadable {
+            place: garbled.place,
+        }
+    }
+}
+
+impl fmt::Display for Refusal {
+    fn fmt<W: fmt::Write>(&self, f: &mut fmt::Formatter<W>) -> fmt::Result {
+        match self {
+            Refusal::Unreadable { place } => Garbled { place: *place }.fmt(f),
+            Refusal::OutOfRange => {
+                write!(
+                    f,
+                    "a rule out of range or of a kind that can't be done, or an earning above the bound"
+                )
+            }
+            Refusal::TooManyRules => write!(f, "a limit of more than 64 rules"),
+            Refusal::BoundTooHigh => write!(f, "a bound above 1,000,000,000"),
+            Refusal::MemoryTooSmall => {
+                write!(f, "memory that is too small, or holds no opened book")
+            }
+            Refusal::NoSuchRule => write!(f, "a rule that is not there"),
+            Refusal::BookFull => write!(f, "more rules than the limit"),
+        }
+    }
+}
+
+impl Error for Refusal {}
+
+impl fmt::Display for UnknownRefusal {
+    fn fmt<W: fmt::Write>(&self, f: &mut fmt::Formatter<W>) -> fmt::Result {
+        write!(
+            f,
+            "no refusal has the number {} and the place {}",
+            self.number, self.place
+        )
+    }
+}
+
+impl Error for UnknownRefusal {}
+
 impl Answer {
-    // The three numbers that say it.
+    // The three numbers that say it. No `From`, which would make a step of the format public.
     fn numbers(self) -> [u64; 3]
         ensures { result ≡ answer_numbers (says self) }
     {
         match self {
             Answer::Refused(refusal) => [0, refusal.number(), refusal.place()],
-            Answer::Number(n) => [1, n, 0],
-            Answer::Two(m, n) => [2, m, n],
+            Answer::Number(number) => [1, number, 0],
+            Answer::Two(first, second) => [2, first, second],
         }
     }
 
+    // Named, as `from_bytes`, for what std calls the like.
     pub fn to_bytes(self) -> [u8; 24]
         ensures { result ≡ answer_bytes (says self) }
     {
-        let [a, b, c] = self.numbers();
-        let mut bytes = [0u8; 24];
-        bytes[0..8].copy_from_slice(&a.to_le_bytes());
-        bytes[8..16].copy_from_slice(&b.to_le_bytes());
-        bytes[16..24].copy_from_slice(&c.to_le_bytes());
+        let mut bytes = [0; 24];
+        bytes.copy_from_slice(self.numbers().map(u64::to_le_bytes).as_flattened());
         bytes
     }
 
+    // Apart from `from_bytes`, which would owe its theorems anew at each of these seven returns.
     fn parse(bytes: &[u8]) -> Option<Answer>
         ensures { says_if result ≡ answer_of bytes.now }
     {
-        if bytes.len() != 24 {
-            return None;
-        }
-        let b = word(bytes, 8);
-        let c = word(bytes, 16);
-        match word(bytes, 0) {
-            0 => {
-                let Some(refusal) = Refusal::of(b, c) else {
-                    return None;
-                };
-                Some(Answer::Refused(refusal))
-            }
-            1 if c == 0 => Some(Answer::Number(b)),
-            2 => Some(Answer::Two(b, c)),
+        let [first, second, third] = three_numbers(bytes)?;
+        match first {
+            0 => Some(Answer::Refused(Refusal::try_from((second, third)).ok()?)),
+            1 if third == 0 => Some(Answer::Number(second)),
+            2 => Some(Answer::Two(second, third)),
             _ => None,
         }
     }
@@ -127,19 +180,16 @@ impl Answer {
     }
 }
 
-// The number of the eight bytes at `at`, low byte first.
-fn word(bytes: &[u8], at: usize) -> u64
-    requires { at + 8 ≤ length bytes.now }
-    ensures { result ≡ number_at 8 bytes.now at }
+// The three numbers that bytes are, if there are 24 bytes, low byte first.
+fn three_numbers(bytes: &[u8]) -> Option<[u64; 3]>
+    ensures { MatchOption result (length bytes.now ≢ 24) (λ numbers. (length bytes.now ≡ 24) × (numbers ≡ number_at 8 bytes.now 0 ∷ (number_at 8 bytes.now 8 ∷ (number_at 8 bytes.now 16 ∷ [])))) }
 {
-    u64::from_le_bytes([
-        bytes[at],
-        bytes[at + 1],
-        bytes[at + 2],
-        bytes[at + 3],
-        bytes[at + 4],
-        bytes[at + 5],
-        bytes[at + 6],
-        bytes[at + 7],
+    let ([first, second, third], []) = bytes.as_chunks() else {
+        return None;
+    };
+    Some([
+        u64::from_le_bytes(*first),
+        u64::from_le_bytes(*second),
+        u64::from_le_bytes(*third),
     ])
 }

@@ -1,12 +1,17 @@
 // Rules and calls, and how they are read from bytes.
-ghost use Rattle.std.specs.Prelude.{◌≡◌, ◌+◌, ◌<◌, ◌≤◌, length, drop, Some, None, MatchOption, nat_lt};
-ghost use Rattle.raise.specs.Rules.{pick};
-ghost use Rattle.wire.specs.Fields.{number_at, four_bytes};
-ghost use Rattle.wire.specs.Meaning.{meant, meant_or, field_or, asks_or};
-ghost use Rattle.wire.specs.CallBytes.{rule_from, rule_of, laid, one_field, call_of, CallsReadBack, CallsDiffer, OnlyCallsRead, PlaceRight};
+ghost use Rattle.std.specs.Prelude.{◌≡◌, ◌+◌, length, Some, None, nat_lt};
+ghost use Rattle.raise.specs.Rules.{pick, takes};
+ghost use Rattle.raise.specs.Calls.{rule_number};
+ghost use Rattle.wire.specs.Fields.{number_at};
+ghost use Rattle.wire.specs.Meaning.{meant, kind_number, meant_or, field_or, asks_or};
+ghost use Rattle.wire.specs.CallBytes.{numbers, rule_from, rule_of, laid, one_field, call_of, CallsReadBack, CallsDiffer, OnlyCallsRead, PlaceRight};
+
+use crate::kinds::RuleKind;
+use std::error::Error;
+use std::fmt;
 
 // A rule; rates are in ten-thousandths of a unit, sums in units.
-#[derive(Clone, Copy)]
+#[derive(Clone, Copy, Debug, PartialEq, Eq)]
 pub enum Rule {
     Take { from: u32, to: u32, rate: u32 },
     Give { from: u32, to: u32, rate: u32 },
@@ -15,8 +20,21 @@ pub enum Rule {
     Fade { from: u32, rate: u32, sum: u32 },
 }
 
+impl Default for Rule {
+    ghost is_default = { λ r. meant r ≡ takes 0 0 0 };
+
+    // Stands in the unused places of a book. It takes nothing, and is not in range.
+    fn default() -> Rule {
+        Rule::Take {
+            from: 0,
+            to: 0,
+            rate: 0,
+        }
+    }
+}
+
 // What is asked: a rule laid or lifted, or a question about an earning.
-#[derive(Clone, Copy)]
+#[derive(Clone, Copy, Debug, PartialEq, Eq)]
 pub enum Call {
     Lay(Rule),
     Lift(u32),
@@ -26,87 +44,80 @@ pub enum Call {
 }
 
 // Bytes that are no call, by the place of the first that doesn't fit.
-#[derive(Clone, Copy)]
+#[derive(Clone, Copy, Debug, PartialEq, Eq)]
 pub struct Garbled {
     pub place: u64,
 }
 
-// The number of the four bytes at `at`, low byte first.
-fn low_first(bytes: &[u8], at: usize) -> u32
-    requires { at + 4 ≤ length bytes.now }
-    ensures { result ≡ four_bytes bytes.now at }
-{
-    u32::from_le_bytes([bytes[at], bytes[at + 1], bytes[at + 2], bytes[at + 3]])
+impl Rule {
+    #[tactic(auto, unfolding(raise::specs::Calls::rule_number))]
+    pub fn kind(self) -> RuleKind
+        ensures { kind_number result ≡ rule_number (meant self) }
+    {
+        match self {
+            Rule::Take { .. } => RuleKind::Take,
+            Rule::Give { .. } => RuleKind::Give,
+            Rule::TakeSum { .. } => RuleKind::TakeSum,
+            Rule::GiveSum { .. } => RuleKind::GiveSum,
+            Rule::Fade { .. } => RuleKind::Fade,
+        }
+    }
+
+    // Its three numbers, in the order of its fields. With `kind` the way back from `RuleKind::rule`, and like it no `From`, which
+    // takes one value alone.
+    pub fn numbers(self) -> [u32; 3]
+        ensures { result ≡ numbers (meant self) }
+    {
+        match self {
+            Rule::Take { from, to, rate } | Rule::Give { from, to, rate } => [from, to, rate],
+            Rule::TakeSum { from, to, sum } | Rule::GiveSum { from, to, sum } => [from, to, sum],
+            Rule::Fade { from, rate, sum } => [from, rate, sum],
+        }
+    }
 }
 
-// The field at `at`, if its four bytes are there.
+impl fmt::Display for Garbled {
+    fn fmt<W: fmt::Write>(&self, f: &mut fmt::Formatter<W>) -> fmt::Result {
+        write!(f, "the bytes are no call from byte {} on", self.place)
+    }
+}
+
+impl Error for Garbled {}
+
+// The field at `at`, low byte first, if its four bytes are there.
 pub(crate) fn field(bytes: &[u8], at: usize) -> Option<u32>
-    requires { at < 1000 }
     ensures { result ≡ pick (nat_lt (length bytes.now) (at + 4)) None (Some (number_at 4 bytes.now at)) }
 {
-    if bytes.len() < at + 4 {
-        return None;
-    }
-    Some(low_first(bytes, at))
+    let four = bytes.get(at..)?.first_chunk()?;
+    Some(u32::from_le_bytes(*four))
 }
 
 // Bytes that end too early: the place is their number.
 fn ends_early(bytes: &[u8]) -> Garbled
     ensures { result.place ≡ length bytes.now }
 {
+    // `usize` has no `From` to another width.
     let place = bytes.len() as u64;
     Garbled { place }
 }
 
-// The bytes, if they are at most so many.
-fn at_most(bytes: &[u8], size: usize) -> Option<&[u8]>
-    ensures { MatchOption result (size < length bytes.now) (λ same. (length bytes.now ≤ size) × (same.now ≡ bytes.now)) }
-{
-    if bytes.len() > size {
-        None
-    } else {
-        Some(bytes)
-    }
-}
-
-// The rule of a kind from 0 to 4, by its three numbers; any other kind counts as 4.
+// The rule of a kind from 0 to 4, by its three numbers; any other kind counts as 4. It takes a number and no `RuleKind`, so that
+// it asks nothing of who calls it.
 pub fn rule_of_kind(kind: u8, from: u32, second: u32, last: u32) -> Rule
     ensures { meant result ≡ rule_from kind from second last }
 {
-    match kind {
-        0 => Rule::Take {
-            from,
-            to: second,
-            rate: last,
-        },
-        1 => Rule::Give {
-            from,
-            to: second,
-            rate: last,
-        },
-        2 => Rule::TakeSum {
-            from,
-            to: second,
-            sum: last,
-        },
-        3 => Rule::GiveSum {
-            from,
-            to: second,
-            sum: last,
-        },
-        _ => Rule::Fade {
-            from,
-            rate: second,
-            sum: last,
-        },
-    }
+    let kind = RuleKind::try_from(kind).unwrap_or(RuleKind::Fade);
+    kind.rule([from, second, last])
 }
 
 // The rule that a part of a call's bytes is, all of it.
 fn read_rule(part: &[u8]) -> Result<Rule, Garbled>
     ensures { meant_or result ≡ rule_of part.now }
 {
-    let [kind @ 0..=4, ..] = part else {
+    let [kind, ..] = part else {
+        return Err(Garbled { place: 0 });
+    };
+    let Ok(kind) = RuleKind::try_from(*kind) else {
         return Err(Garbled { place: 0 });
     };
     let Some(from) = field(part, 1) else {
@@ -118,10 +129,10 @@ fn read_rule(part: &[u8]) -> Result<Rule, Garbled>
     let Some(last) = field(part, 9) else {
         return Err(ends_early(part));
     };
-    let Some(_) = at_most(part, 13) else {
+    if part.len() > 13 {
         return Err(Garbled { place: 13 });
-    };
-    Ok(rule_of_kind(*kind, from, second, last))
+    }
+    Ok(kind.rule([from, second, last]))
 }
 
 // The one field of a call, and nothing after it.
@@ -131,43 +142,34 @@ fn read_field(bytes: &[u8]) -> Result<u32, Garbled>
     let Some(value) = field(bytes, 1) else {
         return Err(ends_early(bytes));
     };
-    let Some(_) = at_most(bytes, 5) else {
+    if bytes.len() > 5 {
         return Err(Garbled { place: 5 });
-    };
+    }
     Ok(value)
 }
 
-// The rule that is laid: the part of the bytes after the kind of the call.
-fn read_lay(bytes: &[u8]) -> Result<Call, Garbled>
-    requires { 0 < length bytes.now }
-    ensures { asks_or result ≡ laid (rule_of (drop 1 bytes.now)) }
+// The rule that is laid, from the part of the bytes after the kind of the call.
+fn read_lay(part: &[u8]) -> Result<Call, Garbled>
+    ensures { asks_or result ≡ laid (rule_of part.now) }
 {
-    match read_rule(&bytes[1..]) {
-        Ok(rule) => Ok(Call::Lay(rule)),
-        Err(garbled) => {
-            let place = garbled.place + 1;
-            Err(Garbled { place })
-        }
-    }
+    let rule = read_rule(part).map_err(|garbled| Garbled {
+        place: garbled.place + 1,
+    })?;
+    Ok(Call::Lay(rule))
 }
 
+// Apart from `read_call`, which would owe its theorems anew at each of these eleven returns.
 fn parse(bytes: &[u8]) -> Result<Call, Garbled>
     ensures { asks_or result ≡ call_of bytes.now }
 {
-    let [kind @ 0..=4, ..] = bytes else {
-        return Err(Garbled { place: 0 });
-    };
-    if *kind == 0 {
-        return read_lay(bytes);
+    match bytes {
+        [0, rule @ ..] => read_lay(rule),
+        [1, ..] => Ok(Call::Lift(read_field(bytes)?)),
+        [2, ..] => Ok(Call::Left(read_field(bytes)?)),
+        [3, ..] => Ok(Call::Row(read_field(bytes)?)),
+        [4, ..] => Ok(Call::Safe(read_field(bytes)?)),
+        _ => Err(Garbled { place: 0 }),
     }
-    let value = read_field(bytes)?;
-    let call = match *kind {
-        1 => Call::Lift(value),
-        2 => Call::Left(value),
-        3 => Call::Row(value),
-        _ => Call::Safe(value),
-    };
-    Ok(call)
 }
 
 // The call that the bytes are, all of them, or the place of the first that doesn't fit.

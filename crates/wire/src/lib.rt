@@ -5,7 +5,9 @@
 mod answers;
 mod calls;
 mod files;
+mod kinds;
 
-pub use answers::{Answer, Refusal};
+pub use answers::{Answer, Refusal, UnknownRefusal};
 pub use calls::{Call, Garbled, Rule, read_call, rule_of_kind};
-pub use files::{Head, next_call, read_head};
+pub use files::{Calls, Head, next_call, read_head};
+pub use kinds::{RuleKind, UnknownKind};

@@ -1,21 +1,9 @@
-use Rattle.std.proofs.Common.{sym, ◌∙◌, arith}
-use Rattle.reference.proofs.Steps.{less_told, less_after, less_here, less_ended, less_nowhere}
+use Rattle.std.proofs.Common.{◌∙◌, rules, tests}
+use Rattle.reference.proofs.Steps.{some_found, less_is}
 use Rattle.reference.proofs.less_from.Goals as goal
 
-pub loop-other-preserved : goal.loop-other-preserved
-loop-other-preserved c =
-    let e = less_told _ _ _ _ _ _ c.net_of.type_inv c.net_of-net.type_inv c.net_of.ensures c.net_of-net.ensures c.if-net_of-net.false in
-    c.loop-other.invariant ∙ less_after _ _ _ _ c.loop-other-test.true e
-
-pub returns-then-net_of-net : goal.returns-then-net_of-net
-returns-then-net_of-net c =
-    let e = less_told _ _ _ _ _ _ c.net_of.type_inv c.net_of-net.type_inv c.net_of.ensures c.net_of-net.ensures c.if-net_of-net.true in
-    sym (c.loop-other.invariant ∙ less_here _ _ _ _ c.loop-other-test.true e)
-
-pub returns-else-net_of-net : goal.returns-else-net_of-net
-returns-else-net_of-net c =
-    let e = less_told _ _ _ _ _ _ c.net_of.type_inv c.net_of-net.type_inv c.net_of.ensures c.net_of-net.ensures c.if-net_of-net.false in
-    sym (c.loop-other.invariant ∙ less_ended _ _ _ _ (omega arith) e)
-
 pub returns : goal.returns
-returns c = sym (c.loop-other.invariant ∙ less_nowhere _ _ _ _ c.loop-other-test.false)
+returns c =
+    let b = c.args.book.now in
+    let at = c.new.ensures in
+    some_found _ _ b.rules c.args.gross (λ x t q k. (search rules, search (rules, tests, less_is))) _ _ _ _ _ (at.start, at.end ∙ c.bound.ensures.value, at.exhausted) c.any.ensures.ran

@@ -1,17 +1,12 @@
-use Rattle.std.proofs.Common.{arith}
-use Rattle.reference.proofs.Rows.{row_none, next_above, row_stops, row_goes_on}
+use Rattle.std.proofs.Common.{sym, ap, ◌∙◌, rules}
+use Rattle.raise.specs.Told.{place_told}
+use Rattle.reference.proofs.Rows.{next_above, row_is}
 use Rattle.reference.proofs.row_from.Goals as goal
 
-pub returns-in_err-first : goal.returns-in_err-first
-returns-in_err-first c = rw c.from_residual.ensures (λ l e. row_none l _ _ c.in_err-first.ensures)
+pub map_or-last-requires : goal.map_or-last-requires
+map_or-last-requires c = λ x e.
+    let lt = next_above _ _ _ _ c.in_ok-first.ensures x (sym (ap place_told e) ∙ c.first_not.ensures) in
+    search (rules, lt)
 
-pub overflow_sub-last : goal.overflow_sub-last
-overflow_sub-last c =
-    let lt = next_above _ _ _ _ c.in_ok-first.ensures _ c.in-Some.ensures in
-    omega arith
-
-pub returns-in-Some : goal.returns-in-Some
-returns-in-Some c = row_stops _ _ _ _ c.in_ok-first.ensures _ c.in-Some.ensures
-
-pub returns-in-None : goal.returns-in-None
-returns-in-None c = row_goes_on _ _ _ _ c.in_ok-first.ensures c.in-None.ensures
+pub returns : goal.returns
+returns c = row_is _ _ _ _ c.in_ok-first.ensures _ _ c.first_not.ensures (search (rules, c.bound.ensures.value))

@@ -1,15 +1,10 @@
-use Rattle.std.proofs.Common.{sym, ◌∙◌, arith}
-use Rattle.reference.proofs.Steps.{first_after, first_here, first_ended, first_nowhere}
+use Rattle.std.proofs.Common.{suc, ◌-◌, ◌&&◌, ltb, ◌∙◌, rules}
+use Rattle.raise.specs.Rules.{all_as_much}
+use Rattle.reference.proofs.Steps.{found}
 use Rattle.reference.proofs.safe_from.Goals as goal
 
-pub loop-earned-preserved : goal.loop-earned-preserved
-loop-earned-preserved c = c.loop-earned.invariant ∙ first_after _ _ _ c.loop-earned-test.true (sym c.if-is_safe.ensures)
-
-pub returns-then-is_safe : goal.returns-then-is_safe
-returns-then-is_safe c = sym (c.loop-earned.invariant ∙ first_here _ _ _ c.loop-earned-test.true (sym c.if-is_safe.ensures))
-
-pub returns-else-is_safe : goal.returns-else-is_safe
-returns-else-is_safe c = sym (c.loop-earned.invariant ∙ first_ended _ _ _ (omega arith) (sym c.if-is_safe.ensures))
-
 pub returns : goal.returns
-returns c = sym (c.loop-earned.invariant ∙ first_nowhere _ _ _ c.loop-earned-test.false)
+returns c =
+    let b = c.args.book.now in
+    let at = c.new.ensures in
+    found _ _ (λ h. ltb c.args.gross h && all_as_much b.rules c.args.gross (suc b.bound - h) h) (λ x t q k. search rules) _ _ _ _ _ (at.start, at.end ∙ c.bound.ensures.value, at.exhausted) c.find.ensures.ran

@@ -1,7 +1,13 @@
-use Rattle.session.proofs.OnBytes.{right_bytes, read_back_bytes, refusal_keeps_bytes, enough_memory_bytes}
+use Rattle.std.proofs.Common.{arith}
+use Rattle.std.proofs.lemmas.List.{length-take-le}
+use Rattle.session.proofs.OnBytes.{enough_memory_bytes}
 use Rattle.session.proofs.serve.Goals as goal
 
-pub returns : goal.returns
-returns c =
-    let e = c.serve_call.ensures in
-    record { count = e.count; out = e.out; words = e.words; right = right_bytes; back = read_back_bytes; keeps = refusal_keeps_bytes; enough = enough_memory_bytes }
+pub copy_from_slice-requires : goal.copy_from_slice-requires
+copy_from_slice-requires c = omega (arith, length-take-le 24 c.args.out.now)
+
+pub returns-then-out-lt24-clause-enough : goal.returns-then-out-lt24-clause-enough
+returns-then-out-lt24-clause-enough c = enough_memory_bytes
+
+pub returns-clause-enough : goal.returns-clause-enough
+returns-clause-enough c = enough_memory_bytes
