@@ -139,7 +139,8 @@ pub fn write_book(words: &mut [u64], book: &Book)
     words[FRONT + SLOT * rules.len()..words_asked(book.limit)].fill(0);
 }
 
-// A book without rules, in the first words; the words beyond stay. Its limits come as the two numbers of an opening.
+// A book without rules, in the first words; the words beyond stay. Its limits come as the two numbers of an opening, for which
+// a struct of limits would ask more.
 pub fn open_empty(words: &mut [u64], limit: u32, bound: u32)
     requires few { limit ≤ 64 }
     requires low { bound ≤ 1000000000 }
@@ -216,6 +217,7 @@ impl Book {
         ensures number { result ≡ pick (has_rule self.old i) (Some i) None }
         ensures book { self.new ≡ pick (has_rule self.old i) (with_rules self.old (changed self.old.rules (lifts i))) self.old }
     {
+        // The test and the place stand apart, and not in `pop_at`, since an edit that must be refused turns each of them.
         let place = i as usize;
         let count = self.rules.len();
         if place >= count {

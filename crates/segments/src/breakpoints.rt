@@ -39,8 +39,8 @@ fn least_above(rules: &[Rule], gross: u32, end: u32) -> u32
     nearest(span_of(*rule), gross, least_above(rest, gross, end))
 }
 
-// The next breakpoint above a gross, or one past the bound where there is none up to it. Any rules will do, those too that no
-// book can hold.
+// The next breakpoint above a gross, or one past the bound where there is none up to it: the last segment ends there. Any rules
+// will do, those too that no book can hold, so that a `&Book` would ask more.
 #[tactic(auto, using(crate::proofs::Points::next_breakpoints, crate::proofs::Points::least_within))]
 pub fn next_breakpoint(rules: &[Rule], bound: u32, gross: u32) -> u32
     requires { bound ≤ 1000000000 }

@@ -16,8 +16,8 @@ fn is_set(bits: u64, i: usize) -> bool
     bits >> i & 1 == 1
 }
 
-// Which rules hold at a gross, the i-th bit for the i-th rule. The same hold on all of the segment that begins there. At most
-// 64 rules, any, those too that no book can hold.
+// Which rules hold at a gross, the i-th bit for the i-th rule. The same hold on all of the segment that begins there. At most 64
+// rules, any, those too that no book can hold, so that a `&Book` would ask more.
 #[tactic(auto, using(crate::proofs::Marks::it_holds, crate::proofs::Marks::it_fails, crate::proofs::Marks::all_rules))]
 pub fn holding_at(rules: &[Rule], gross: u32) -> u64
     requires { length rules.now ≤ 64 }

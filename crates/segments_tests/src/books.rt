@@ -7,26 +7,6 @@ use wire::Rule;
 
 pub(crate) const MOST: u32 = 1_000_000_000;
 
-pub(crate) fn take(from: u32, to: u32, rate: u32) -> Rule {
-    Rule::Take { from, to, rate }
-}
-
-pub(crate) fn give(from: u32, to: u32, rate: u32) -> Rule {
-    Rule::Give { from, to, rate }
-}
-
-pub(crate) fn take_sum(from: u32, to: u32, sum: u32) -> Rule {
-    Rule::TakeSum { from, to, sum }
-}
-
-pub(crate) fn give_sum(from: u32, to: u32, sum: u32) -> Rule {
-    Rule::GiveSum { from, to, sum }
-}
-
-pub(crate) fn fade(from: u32, rate: u32, sum: u32) -> Rule {
-    Rule::Fade { from, rate, sum }
-}
-
 pub(crate) fn lay(rt: &impl Abort, book: &mut Book, rule: Rule) -> Result<(), Fail> {
     if !is_fine(rule) {
         return Err(Fail::new("out of range"));

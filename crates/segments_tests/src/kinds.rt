@@ -1,6 +1,7 @@
 // Rules of every kind, and breakpoints at the edges.
 use crate::books::*;
 use std::test::Fail;
+use wire::RuleKind;
 
 #[test]
 fn no_rules(rt: HostRuntime) -> Result<(), Fail> {
@@ -25,7 +26,11 @@ fn no_rules(rt: HostRuntime) -> Result<(), Fail> {
 // 10, 20 and 30 are breakpoints of two rules each: one segment begins there, and no empty one.
 #[test]
 fn together(rt: HostRuntime) -> Result<(), Fail> {
-    let rules = [take(10, 20, 1000), give(20, 30, 500), take_sum(10, 30, 1)];
+    let rules = [
+        RuleKind::Take.rule([10, 20, 1000]),
+        RuleKind::Give.rule([20, 30, 500]),
+        RuleKind::TakeSum.rule([10, 30, 1]),
+    ];
     let book = laid(&rt, 40, &rules)?;
     let segments = [
         (10, 0, 10_000),
@@ -59,9 +64,9 @@ fn together(rt: HostRuntime) -> Result<(), Fail> {
 #[test]
 fn at_the_edges(rt: HostRuntime) -> Result<(), Fail> {
     let rules = [
-        give_sum(0, 5, 2),
-        take(40, 50, 3_000),
-        take(41, MOST, 20_000),
+        RuleKind::GiveSum.rule([0, 5, 2]),
+        RuleKind::Take.rule([40, 50, 3_000]),
+        RuleKind::Take.rule([41, MOST, 20_000]),
     ];
     let book = laid(&rt, 40, &rules)?;
     cut(
@@ -97,7 +102,14 @@ fn at_the_edges(rt: HostRuntime) -> Result<(), Fail> {
 // within its first, never, and past 2^32, where its end cut to 32 bits would be 2,705.
 #[test]
 fn fades(rt: HostRuntime) -> Result<(), Fail> {
-    let book = laid(&rt, 40, &[fade(5, 9_000, 9), take(0, 100, 2_000)])?;
+    let book = laid(
+        &rt,
+        40,
+        &[
+            RuleKind::Fade.rule([5, 9_000, 9]),
+            RuleKind::Take.rule([0, 100, 2_000]),
+        ],
+    )?;
     cut(
         &rt,
         &book,
@@ -108,7 +120,7 @@ fn fades(rt: HostRuntime) -> Result<(), Fail> {
         ],
     )?;
     hold(&rt, &book, &[(4, 2), (5, 3), (15, 3), (16, 2)]);
-    let book = laid(&rt, 40, &[fade(5, 9_000, 8)])?;
+    let book = laid(&rt, 40, &[RuleKind::Fade.rule([5, 9_000, 8])])?;
     cut(
         &rt,
         &book,
@@ -118,7 +130,7 @@ fn fades(rt: HostRuntime) -> Result<(), Fail> {
             (41, 140_000, 10_000),
         ],
     )?;
-    let book = laid(&rt, 40, &[fade(5, 20_000, 1)])?;
+    let book = laid(&rt, 40, &[RuleKind::Fade.rule([5, 20_000, 1])])?;
     cut(
         &rt,
         &book,
@@ -128,10 +140,10 @@ fn fades(rt: HostRuntime) -> Result<(), Fail> {
             (41, 60_000, 10_000),
         ],
     )?;
-    let book = laid(&rt, 40, &[fade(5, 0, 9)])?;
+    let book = laid(&rt, 40, &[RuleKind::Fade.rule([5, 0, 9])])?;
     cut(&rt, &book, &[(5, 90_000, 10_000), (41, 140_000, 10_000)])?;
     hold(&rt, &book, &[(4, 0), (5, 1), (u32::MAX, 1)]);
-    let book = laid(&rt, MOST, &[fade(0, 1, 429_497)])?;
+    let book = laid(&rt, MOST, &[RuleKind::Fade.rule([0, 1, 429_497])])?;
     cut(&rt, &book, &[(MOST + 1, 4_294_970_000, 9_999)])?;
     hold(&rt, &book, &[(4_294_967_295, 1)]);
     Ok(())

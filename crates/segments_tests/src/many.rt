@@ -4,11 +4,12 @@ use book::Book;
 use segments::Segment;
 use std::process::Abort;
 use std::test::Fail;
+use wire::RuleKind;
 
 // Each rule begins and ends at a breakpoint of its own.
 fn lay_apart(rt: &impl Abort, book: &mut Book) -> Result<(), Fail> {
     for i in 0..64 {
-        lay(rt, book, give_sum(2 * i + 1, 2 * i + 2, i))?;
+        lay(rt, book, RuleKind::GiveSum.rule([2 * i + 1, 2 * i + 2, i]))?;
     }
     Ok(())
 }
@@ -43,7 +44,7 @@ fn as_many_segments(rt: HostRuntime) -> Result<(), Fail> {
 // All rules hold at once and take most.
 #[test]
 fn all_at_once(rt: HostRuntime) -> Result<(), Fail> {
-    let book = laid(&rt, MOST, &[take(0, MOST, 20_000); 64])?;
+    let book = laid(&rt, MOST, &[RuleKind::Take.rule([0, MOST, 20_000]); 64])?;
     let at_the_bound = 10_000_000_000_000 - 1_280_000_000_000_000;
     cut(
         &rt,
@@ -55,7 +56,7 @@ fn all_at_once(rt: HostRuntime) -> Result<(), Fail> {
         &book,
         &[(0, u64::MAX), (MOST - 1, u64::MAX), (MOST, 0)],
     );
-    let book = laid(&rt, MOST, &[give(0, MOST, 20_000); 64])?;
+    let book = laid(&rt, MOST, &[RuleKind::Give.rule([0, MOST, 20_000]); 64])?;
     cut(
         &rt,
         &book,

@@ -26,11 +26,14 @@ fn room_for(words: &[u64], rules: u32) -> Option<usize>
     (words.len() >= count).then_some(count)
 }
 
-// Checks the limits and the room in this order, and writes an empty book. Apart from `open`, which would owe its theorems anew
-// at each of these four returns.
-fn open_book(words: &mut [u64], rules: u32, bound: u32) -> Result<(), Refusal>
+// Opens a book in the lent words, for so many rules and earnings up to so much: two numbers, each with a refusal of its own. The
+// limits and the room are checked in this order. An accepted opening serves for good.
+#[tactic(auto, using(crate::proofs::Runs::suffices))]
+pub fn open(words: &mut [u64], rules: u32, bound: u32) -> Result<(), Refusal>
     ensures said { said_open result ≡ opening words.old (limited rules bound) }
     ensures words { words.new ≡ open_words words.old (limited rules bound) }
+    ensures opened { Opened (limited rules bound) (said_open result) words.old words.new }
+    ensures suffices { Suffices (limited rules bound) words.old (said_open result) }
 {
     let Some(limit) = at_most(rules, 64) else {
         return Err(Refusal::TooManyRules);
@@ -45,26 +48,9 @@ fn open_book(words: &mut [u64], rules: u32, bound: u32) -> Result<(), Refusal>
     Ok(())
 }
 
-// Opens a book in the lent words, for so many rules and earnings up to so much. An accepted opening serves for good.
-pub fn open(words: &mut [u64], rules: u32, bound: u32) -> Result<(), Refusal>
-    ensures said { said_open result ≡ opening words.old (limited rules bound) }
-    ensures words { words.new ≡ open_words words.old (limited rules bound) }
-    ensures opened { Opened (limited rules bound) (said_open result) words.old words.new }
-    ensures suffices { Suffices (limited rules bound) words.old (said_open result) }
-{
-    open_book(words, rules, bound)
-}
-
-// The answer to the call that the bytes are, or the refusal as an answer.
-fn read_and_reply(words: &mut [u64], bytes: &[u8]) -> Answer
-    ensures said { says result ≡ says_words words.old (call_of bytes.now) }
-    ensures words { words.new ≡ next_words words.old (call_of bytes.now) }
-{
-    reply(words, bytes).unwrap_or_else(Answer::Refused)
-}
-
 // Answers the call that the bytes are. For every list of calls the answers are those of the written book, a call that
 // is turned away changes nothing, and memory stays within what is asked for.
+#[tactic(auto, using(crate::proofs::Runs::right, crate::proofs::Runs::refusal_keeps, crate::proofs::Nothing::all_plain, crate::proofs::Nothing::nothing_laid))]
 pub fn call(words: &mut [u64], bytes: &[u8]) -> Answer
     ensures said { says result ≡ says_words words.old (call_of bytes.now) }
     ensures words { words.new ≡ next_words words.old (call_of bytes.now) }
@@ -74,7 +60,7 @@ pub fn call(words: &mut [u64], bytes: &[u8]) -> Answer
     ensures plain { Plain }
     ensures unlaid { NothingLaid }
 {
-    read_and_reply(words, bytes)
+    reply(words, bytes).unwrap_or_else(Answer::Refused)
 }
 
 // The same with the answer's 24 bytes in `out`, and how many were written: none, and nothing is changed, where `out` is
@@ -92,7 +78,7 @@ pub fn serve(words: &mut [u64], bytes: &[u8], out: &mut [u8]) -> usize
     if out.len() < 24 {
         return 0;
     }
-    let answer = read_and_reply(words, bytes);
+    let answer = call(words, bytes);
     out[..24].copy_from_slice(&answer.to_bytes());
     24
 }

@@ -6,24 +6,30 @@ ghost use Rattle.wire.specs.Meaning.{refusal_number, refusal_place, says, says_i
 ghost use Rattle.wire.specs.AnswerBytes.{ReadsRefusal, answer_numbers, answer_bytes, answer_of, AnswersReadBack, OnlyAnswersRead, RefusalsRead};
 
 use crate::calls::Garbled;
-use std::error::Error;
-use std::fmt;
+use thiserror::Error;
 
 // Why a call or an opening was turned away.
-#[derive(Clone, Copy, Debug, PartialEq, Eq)]
+#[derive(Clone, Copy, Debug, PartialEq, Eq, Error)]
 pub enum Refusal {
     // 1: the bytes are no call, from this place on
+    #[error("the bytes are no call from byte {place} on")]
     Unreadable { place: u64 },
-    // 2: a rule out of range or of a kind that can't be done, or an earning above the bound
+    // 2
+    #[error("a rule out of range or of a kind that can't be done, or an earning above the bound")]
     OutOfRange,
-    // 3 at 0 and 1: an opening with more than 64 rules, or with a bound above 1,000,000,000
+    // 3 at 0 and 1, at an opening
+    #[error("a limit of more than 64 rules")]
     TooManyRules,
+    #[error("a bound above 1,000,000,000")]
     BoundTooHigh,
     // 3 at 2: memory smaller than is asked for, or that holds no opened book
+    #[error("memory that is too small, or holds no opened book")]
     MemoryTooSmall,
-    // 4: a rule that is not there
+    // 4
+    #[error("a rule that is not there")]
     NoSuchRule,
-    // 5: more rules than the limit
+    // 5
+    #[error("more rules than the limit")]
     BookFull,
 }
 
@@ -63,7 +69,8 @@ impl Refusal {
 }
 
 // A number and a place that no refusal has.
-#[derive(Clone, Copy, Debug, PartialEq, Eq)]
+#[derive(Clone, Copy, Debug, PartialEq, Eq, Error)]
+#[error("no refusal has the number {number} and the place {place}")]
 pub struct UnknownRefusal {
     pub number: u64,
     pub place: u64,
@@ -98,41 +105,6 @@ impl From<Garbled> for Refusal {
         }
     }
 }
-
-impl fmt::Display for Refusal {
-    fn fmt<W: fmt::Write>(&self, f: &mut fmt::Formatter<W>) -> fmt::Result {
-        match self {
-            Refusal::Unreadable { place } => Garbled { place: *place }.fmt(f),
-            Refusal::OutOfRange => {
-                write!(
-                    f,
-                    "a rule out of range or of a kind that can't be done, or an earning above the bound"
-                )
-            }
-            Refusal::TooManyRules => write!(f, "a limit of more than 64 rules"),
-            Refusal::BoundTooHigh => write!(f, "a bound above 1,000,000,000"),
-            Refusal::MemoryTooSmall => {
-                write!(f, "memory that is too small, or holds no opened book")
-            }
-            Refusal::NoSuchRule => write!(f, "a rule that is not there"),
-            Refusal::BookFull => write!(f, "more rules than the limit"),
-        }
-    }
-}
-
-impl Error for Refusal {}
-
-impl fmt::Display for UnknownRefusal {
-    fn fmt<W: fmt::Write>(&self, f: &mut fmt::Formatter<W>) -> fmt::Result {
-        write!(
-            f,
-            "no refusal has the number {} and the place {}",
-            self.number, self.place
-        )
-    }
-}
-
-impl Error for UnknownRefusal {}
 
 impl Answer {
     // The three numbers that say it. No `From`, which would make a step of the format public.

@@ -7,8 +7,7 @@ ghost use Rattle.wire.specs.Meaning.{meant, kind_number, meant_or, field_or, ask
 ghost use Rattle.wire.specs.CallBytes.{numbers, rule_from, rule_of, laid, one_field, call_of, CallsReadBack, CallsDiffer, OnlyCallsRead, PlaceRight};
 
 use crate::kinds::RuleKind;
-use std::error::Error;
-use std::fmt;
+use thiserror::Error;
 
 // A rule; rates are in ten-thousandths of a unit, sums in units.
 #[derive(Clone, Copy, Debug, PartialEq, Eq)]
@@ -44,7 +43,8 @@ pub enum Call {
 }
 
 // Bytes that are no call, by the place of the first that doesn't fit.
-#[derive(Clone, Copy, Debug, PartialEq, Eq)]
+#[derive(Clone, Copy, Debug, PartialEq, Eq, Error)]
+#[error("the bytes are no call from byte {place} on")]
 pub struct Garbled {
     pub place: u64,
 }
@@ -75,14 +75,6 @@ impl Rule {
         }
     }
 }
-
-impl fmt::Display for Garbled {
-    fn fmt<W: fmt::Write>(&self, f: &mut fmt::Formatter<W>) -> fmt::Result {
-        write!(f, "the bytes are no call from byte {} on", self.place)
-    }
-}
-
-impl Error for Garbled {}
 
 // The field at `at`, low byte first, if its four bytes are there.
 pub(crate) fn field(bytes: &[u8], at: usize) -> Option<u32>

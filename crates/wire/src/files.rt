@@ -36,6 +36,7 @@ pub fn next_call(rest: &[u8]) -> Option<(&[u8], &[u8])>
     let Some((length, body)) = rest.split_first_chunk() else {
         return Some((&[], &[]));
     };
+    // `usize` has no `From` of `u32`.
     let length = u32::from_le_bytes(*length) as usize;
     Some(body.split_at(length.min(body.len())))
 }

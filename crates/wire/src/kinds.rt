@@ -4,8 +4,7 @@ ghost use Rattle.wire.specs.Meaning.{meant, kind_number, ReadsKind};
 ghost use Rattle.wire.specs.CallBytes.{rule_from};
 
 use crate::calls::Rule;
-use std::error::Error;
-use std::fmt;
+use thiserror::Error;
 
 // In the order of their numbers, from 0 on.
 #[derive(Clone, Copy, Debug, PartialEq, Eq)]
@@ -18,7 +17,8 @@ pub enum RuleKind {
 }
 
 // A number that stands for no kind.
-#[derive(Clone, Copy, Debug, PartialEq, Eq)]
+#[derive(Clone, Copy, Debug, PartialEq, Eq, Error)]
+#[error("no kind of rule has the number {0}")]
 pub struct UnknownKind(pub u8);
 
 impl TryFrom<u8> for RuleKind {
@@ -73,11 +73,3 @@ impl RuleKind {
         }
     }
 }
-
-impl fmt::Display for UnknownKind {
-    fn fmt<W: fmt::Write>(&self, f: &mut fmt::Formatter<W>) -> fmt::Result {
-        write!(f, "no kind of rule has the number {}", self.0)
-    }
-}
-
-impl Error for UnknownKind {}

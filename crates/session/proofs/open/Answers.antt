@@ -1,13 +1,15 @@
-use Rattle.session.specs.Memory.{limited, opening, open_words, Opened, Suffices}
-use Rattle.session.proofs.Runs.{opened, suffices}
+use Rattle.std.proofs.Common.{◌≡◌, subst, arith}
+use Rattle.std.proofs.lemmas.Bool.Decides.{nat_tests}
+use Rattle.raise.specs.Calls.{Answer, number}
+use Rattle.session.specs.Memory.{limited, opening, open_words, Opened}
+use Rattle.session.proofs.Runs.{opened}
 use Rattle.session.proofs.open.Goals as goal
 
-pub returns : goal.returns
-returns c =
+pub returns-clause-opened : goal.returns-clause-opened
+returns-clause-opened c =
     let ws = c.args.words.now in
     let l = limited c.args.rules c.args.bound in
-    let s = c.open_book.ensures.said in
-    let w = c.open_book.ensures.words in
-    let o : Opened l (opening ws l) ws (open_words ws l) = opened ws c.args.rules c.args.bound in
-    let f : Suffices l ws (opening ws l) = suffices ws l in
-    record { said = s; words = w; opened = rw (w, s) o; suffices = rw s f }
+    let said : opening ws l ≡ number 0 = grind (arith, nat_tests) in
+    let words : open_words ws l ≡ c.open_empty.new.words = grind (arith, nat_tests) in
+    let P : Answer → Type 0 = λ a. Opened l a ws (open_words ws l) in
+    rw words at (subst P said (opened ws c.args.rules c.args.bound))
