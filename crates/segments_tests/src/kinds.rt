@@ -99,7 +99,7 @@ fn at_the_edges(rt: HostRuntime) -> Result<(), Fail> {
 }
 
 // A fade holds from its border to the last unit at which something may be left of it: exactly at a whole unit, inside one,
-// within its first, never, and past 2^32, where its end cut to 32 bits would be 2,705.
+// within its first.
 #[test]
 fn fades(rt: HostRuntime) -> Result<(), Fail> {
     let book = laid(
@@ -139,7 +139,12 @@ fn fades(rt: HostRuntime) -> Result<(), Fail> {
             (6, 60_000, -10_000),
             (41, 60_000, 10_000),
         ],
-    )?;
+    )
+}
+
+// It is never used up at a rate of 0, and past 2^32 at a low one, where its end cut to 32 bits would be 2,705.
+#[test]
+fn fades_that_last(rt: HostRuntime) -> Result<(), Fail> {
     let book = laid(&rt, 40, &[RuleKind::Fade.rule([5, 0, 9])])?;
     cut(&rt, &book, &[(5, 90_000, 10_000), (41, 140_000, 10_000)])?;
     hold(&rt, &book, &[(4, 0), (5, 1), (u32::MAX, 1)]);

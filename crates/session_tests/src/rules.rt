@@ -34,6 +34,13 @@ fn in_range(rt: HostRuntime) -> Result<(), Fail> {
     Ok(())
 }
 
+fn no_room_for_more(rt: &impl Abort, words: &mut [u64]) {
+    let full = Answer::Refused(Refusal::BookFull);
+    says(rt, words, &lay(TAKE, 0, MOST, 20_000), full);
+    let out_of_range = Answer::Refused(Refusal::OutOfRange);
+    says(rt, words, &lay(TAKE, 0, 0, 0), out_of_range);
+}
+
 // 64 rules, of which each takes most: amounts have room for all, and one more is refused.
 #[test]
 fn full(rt: HostRuntime) -> Result<(), Fail> {
@@ -41,51 +48,21 @@ fn full(rt: HostRuntime) -> Result<(), Fail> {
     open(&mut words, 64, MOST).ok().ok_or("not opened")?;
     all_laid(&rt, &mut words, &[(TAKE, 0, MOST, 20_000); 64]);
     let book = words;
-    says(
-        &rt,
-        &mut words,
-        &lay(TAKE, 0, MOST, 20_000),
-        Answer::Refused(Refusal::BookFull),
-    );
-    says(
-        &rt,
-        &mut words,
-        &lay(TAKE, 0, 0, 0),
-        Answer::Refused(Refusal::OutOfRange),
-    );
+    no_room_for_more(&rt, &mut words);
     assert_eq!(rt; words, book);
+    let (by_64, by_63) = (1_280_000_000_000_000, 1_260_000_000_000_000);
     let lifted = [
-        (
-            LEFT,
-            MOST,
-            Answer::Two(10_000_000_000_000, 1_280_000_000_000_000),
-        ),
+        (LEFT, MOST, Answer::Two(10_000_000_000_000, by_64)),
         (LIFT, 63, Answer::Number(63)),
-        (
-            LEFT,
-            MOST,
-            Answer::Two(10_000_000_000_000, 1_260_000_000_000_000),
-        ),
+        (LEFT, MOST, Answer::Two(10_000_000_000_000, by_63)),
     ];
     all_say(&rt, &mut words, &lifted);
-    says(
-        &rt,
-        &mut words,
-        &lay(GIVE, 0, MOST, 20_000),
-        Answer::Number(63),
-    );
-    says(
-        &rt,
-        &mut words,
-        &ask(LEFT, MOST),
-        Answer::Two(30_000_000_000_000, 1_260_000_000_000_000),
-    );
-    says(
-        &rt,
-        &mut words,
-        &lay(GIVE, 0, MOST, 1),
-        Answer::Refused(Refusal::BookFull),
-    );
+    let give = lay(GIVE, 0, MOST, 20_000);
+    says(&rt, &mut words, &give, Answer::Number(63));
+    let left = Answer::Two(30_000_000_000_000, by_63);
+    says(&rt, &mut words, &ask(LEFT, MOST), left);
+    let full = Answer::Refused(Refusal::BookFull);
+    says(&rt, &mut words, &lay(GIVE, 0, MOST, 1), full);
     assert_eq!(rt; &words[2112..], [7, 7, 7, 7].as_slice());
     Ok(())
 }
