@@ -98,6 +98,38 @@ fn at_the_edges(rt: HostRuntime) -> Result<(), Fail> {
     cut(&rt, &book, &[(5, 20_000, 10_000), (6, 50_000, 10_000)])
 }
 
+// Taxes, a lunch that ends at 1,500, and an aid that fades from 500: at 1,500 its last unit is used up, so that the segment there
+// has one gross, with the slope of the aid, and from 1,501 on net rises faster.
+#[test]
+fn of_a_family(rt: HostRuntime) -> Result<(), Fail> {
+    let rules = [
+        RuleKind::Take.rule([1_000, 3_000, 2_000]),
+        RuleKind::Take.rule([3_000, 100_000, 4_000]),
+        RuleKind::GiveSum.rule([0, 1_500, 200]),
+        RuleKind::Fade.rule([500, 3_000, 300]),
+    ];
+    let book = laid(&rt, 5_000, &rules)?;
+    let segments = [
+        (500, 5_000_000, 10_000),
+        (1_000, 10_000_000, 7_000),
+        (1_500, 13_500_000, 5_000),
+        (1_501, 14_000_000, 5_000),
+        (3_000, 14_008_000, 8_000),
+        (5_001, 26_000_000, 6_000),
+    ];
+    cut(&rt, &book, &segments)?;
+    let holding = [
+        (499, 4),
+        (500, 12),
+        (1_499, 13),
+        (1_500, 9),
+        (1_501, 1),
+        (3_000, 2),
+    ];
+    hold(&rt, &book, &holding);
+    Ok(())
+}
+
 // A fade holds from its border to the last unit at which something may be left of it: exactly at a whole unit, inside one,
 // within its first.
 #[test]
