@@ -98,8 +98,8 @@ fn at_the_edges(rt: HostRuntime) -> Result<(), Fail> {
     cut(&rt, &book, &[(5, 20_000, 10_000), (6, 50_000, 10_000)])
 }
 
-// Taxes, a lunch that ends at 1,500, and an aid that fades from 500: at 1,500 its last unit is used up, so that the segment there
-// has one gross, with the slope of the aid, and from 1,501 on net rises faster.
+// Taxes, a lunch that ends at 1,500, and an aid that fades above 500 and is used up at 1,500. Between the two breakpoints, 1,500 and
+// 1,501, lies a segment of one gross, with the slope of the aid; from 1,501 on net rises faster.
 #[test]
 fn of_a_family(rt: HostRuntime) -> Result<(), Fail> {
     let rules = [
