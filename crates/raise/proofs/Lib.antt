@@ -8,5 +8,6 @@ pub mod Rates
 pub mod Lines
 pub mod Straight
 pub mod Look
+pub mod Lows
 pub mod Trial
 pub mod Picks

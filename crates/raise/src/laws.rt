@@ -1,10 +1,11 @@
 // What is true of the definitions, whatever the rules are. These functions have nothing to do: what each ensures is a law,
 // and without the law's proof the crate is refused.
-ghost use Rattle.std.specs.Prelude.{◌≡◌, ℕ, true, List, [], ◌∷◌, ◌++◌, Decides, int_lt};
+ghost use Rattle.std.specs.Prelude.{◌≡◌, ℕ, suc, ◌<◌, ◌≤◌, true, List, [], ◌∷◌, ◌++◌, ℤ, Some, Decides, int_lt};
 ghost use Rattle.raise.specs.Rules.{Rule, less_left, loses, safe_from};
 ghost use Rattle.raise.specs.Calls.{Limits, lays, next_row, fine, changed, told};
 ghost use Rattle.raise.specs.Promise.{borders, Shown, NeverLess, WhereToLook, AnyOrder, RatesAlone, SafeFrom};
 ghost use Rattle.raise.specs.Net.{net, share, Straight, breaks, breakpoints, clear, SameOrPast, slope_by, slope};
+ghost use Rattle.raise.specs.Lowest.{lowest_from, Lowest, NetLine, lowest_with, loses_at};
 ghost use Rattle.raise.specs.Laws.{LessAbove, Nobody, Rises, SeenAt, SeenNear, JustWithin, SafeTold, RowTold, AskedAlike, SameUpTo, Idle, idle};
 
 // Whoever loses can be shown a larger earning of which less is left; for whoever doesn't there is none.
@@ -78,4 +79,16 @@ pub fn straight()
     ensures one { (r : Rule) (from to : ℕ) → clear (breaks r []) from to ≡ true → Straight (share r) from to (share r from) (slope_by r from) }
     ensures all { (rs : List Rule) (from to : ℕ) → clear (breakpoints rs) from to ≡ true → Straight (net rs) from to (net rs from) (slope rs from) }
     ensures borders { (rs : List Rule) → SameOrPast (breakpoints rs) (borders rs) }
+{}
+
+// The lowest net from an earning on, up to the bound, is that of one of these earnings, and of none of them is less left. Down a
+// line it is the lesser of the line's two ends and of the lowest beyond.
+pub fn lowest()
+    ensures least { (rs : List Rule) (b x : ℕ) → Lowest (net rs) x (suc b) (lowest_from rs b x) }
+    ensures down { (rs : List Rule) (b from to : ℕ) (v d : ℤ) → NetLine rs b from to v d → lowest_from rs b from ≡ Some (lowest_with from to v d (lowest_from rs b to)) }
+{}
+
+// Who loses on a line is told by it and by the lowest beyond.
+pub fn on_a_line()
+    ensures { (rs : List Rule) (b from to : ℕ) (v d : ℤ) → NetLine rs b from to v d → (g : ℕ) → from ≤ g → g < to → loses rs b g ≡ loses_at from to v d (lowest_from rs b to) g }
 {}
