@@ -9,7 +9,7 @@ use Rattle.wire.specs.declared.calls.Rule as declared
 use Rattle.wire.specs.Meaning.{meant}
 use Rattle.book.specs.Meant.{all_meant}
 use Rattle.segments.specs.Points.{nearer, least_above, Next, NextBreakpoints}
-use Rattle.segments.specs.Spans.{span, nearest}
+use Rattle.segments.specs.Spans.{span, nearest, SpanEnds, SpanHolds}
 
 -- ---- the least above
 
@@ -63,6 +63,23 @@ pub next_breakpoints : NextBreakpoints
 next_breakpoints rs b g le = least_next (breakpoints rs) g (suc b) (omega arith)
 
 -- ---- rule by rule
+
+pub span_ends : SpanEnds
+unfolding breakpoints
+span_ends (takes a b r) rs = refl
+span_ends (gives a b r) rs = refl
+span_ends (takes_sum a b s) rs = refl
+span_ends (gives_sum a b s) rs = refl
+span_ends (fades a zero s) rs = refl
+span_ends (fades a (suc r) s) rs = refl
+
+pub span_holds : SpanHolds
+span_holds (takes a b r) g = refl
+span_holds (gives a b r) g = refl
+span_holds (takes_sum a b s) g = refl
+span_holds (gives_sum a b s) g = refl
+span_holds (fades a zero s) g = grind arith
+span_holds (fades a (suc r) s) g = grind arith
 
 pub by_no_rule : (rs : List declared.Rule) (x e : ℕ) → length rs < 1 → e ≡ least_above (breakpoints (all_meant rs)) x e
 unfolding least_above breakpoints

@@ -1,6 +1,7 @@
 -- Where a rule holds, as the code has it. Definitions only: nothing is assumed.
-use Rattle.std.specs.Prelude.{ℕ, zero, suc, ◌+◌, ◌*◌, ◌/◌, Some, None, Option}
+use Rattle.std.specs.Prelude.{◌≡◌, ℕ, zero, suc, ◌+◌, ◌*◌, ◌/◌, Bool, true, ◌&&◌, List, ◌∷◌, Some, None, Option, nat_le, nat_lt}
 use Rattle.raise.specs.Rules.{Rule, takes, gives, takes_sum, gives_sum, fades}
+use Rattle.raise.specs.Net.{breakpoints, holds}
 use Rattle.segments.specs.declared.spans.Span.{Span}
 use Rattle.segments.specs.Points.{nearer}
 
@@ -21,3 +22,23 @@ nearer_end x (Some y) m = nearer x y m
 -- the nearest of a span's breakpoints above x, or m
 abbrev pub nearest : Span → ℕ → ℕ → ℕ
 nearest s x m = nearer x s.from (nearer_end x s.to m)
+
+-- ---- what a span tells of its rule
+
+-- y, if there is one, before others
+abbrev pub before : Option ℕ → List ℕ → List ℕ
+before None xs = xs
+before (Some y) xs = y ∷ xs
+
+-- the breakpoints of a rule are the ends of its span
+abbrev pub SpanEnds : Type 0
+SpanEnds = (r : Rule) (rs : List Rule) → breakpoints (r ∷ rs) ≡ (span r).from ∷ before (span r).to (breakpoints rs)
+
+-- is g before an end, if there is one
+abbrev pub not_past : Option ℕ → ℕ → Bool
+not_past None g = true
+not_past (Some y) g = nat_lt g y
+
+-- and it holds from the first of them on, before the second
+abbrev pub SpanHolds : Type 0
+SpanHolds = (r : Rule) (g : ℕ) → holds r g ≡ (nat_le (span r).from g && not_past (span r).to g)

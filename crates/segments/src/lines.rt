@@ -1,5 +1,6 @@
 // A segment: the grosses from one on, up to before the next breakpoint, with the line that net is on it.
-ghost use Rattle.std.specs.Prelude.{◌≡◌, ◌≤◌};
+ghost use Rattle.std.specs.Prelude.{◌≡◌, ◌<◌, ◌≤◌};
+ghost use Rattle.raise.specs.Net.{on_line};
 ghost use Rattle.segments.specs.Segments.{segment_at, SegmentOf, Sized, SegmentsCover};
 
 use crate::breakpoints::next_breakpoint;
@@ -13,6 +14,18 @@ pub struct Segment {
     pub to: u32,
     pub net: i64,
     pub slope: i64,
+}
+
+impl Segment {
+    // What is left of a gross on the segment.
+    pub fn net_at(self, gross: u32) -> i64
+        requires sized { Sized self }
+        requires low { self.from ≤ gross }
+        requires high { gross < self.to }
+        ensures { result ≡ on_line self.from self.net self.slope gross }
+    {
+        self.net + self.slope * i64::from(gross - self.from)
+    }
 }
 
 // The segment from a gross up to the bound on. Those from 0 on, one after the other, cover all grosses up to the bound without

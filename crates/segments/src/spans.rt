@@ -3,15 +3,15 @@ ghost use Rattle.std.specs.Prelude.{◌≡◌};
 ghost use Rattle.raise.specs.Rules.{fades};
 ghost use Rattle.raise.specs.Net.{holds, pace};
 ghost use Rattle.wire.specs.Meaning.{meant};
-ghost use Rattle.segments.specs.Spans.{span};
+ghost use Rattle.segments.specs.Spans.{span, SpanEnds, SpanHolds};
 
 use wire::Rule;
 
 // From a rule's first breakpoint on, up to before its second, or for good where it has no second.
-#[derive(Clone, Copy)]
-pub(crate) struct Span {
-    pub(crate) from: u32,
-    pub(crate) to: Option<u64>,
+#[derive(Clone, Copy, Debug, PartialEq, Eq)]
+pub struct Span {
+    pub from: u32,
+    pub to: Option<u64>,
 }
 
 // One past the last unit at which something may be left of a fade; a rate of 0 never uses it up.
@@ -22,9 +22,12 @@ fn faded_at(from: u32, rate: u32, sum: u32) -> Option<u64>
     Some(u64::from(from) + units + 1)
 }
 
-// The stretch on which a rule holds.
-pub(crate) fn span_of(rule: Rule) -> Span
-    ensures { result ≡ span (meant rule) }
+// The stretch on which a rule holds; its ends are the rule's breakpoints.
+#[tactic(auto, using(crate::proofs::Points::span_ends, crate::proofs::Points::span_holds))]
+pub fn span_of(rule: Rule) -> Span
+    ensures span { result ≡ span (meant rule) }
+    ensures ends { SpanEnds }
+    ensures holds { SpanHolds }
 {
     match rule {
         Rule::Take { from, to, .. }
