@@ -14,12 +14,12 @@ use Rattle.book.specs.Held.{slot, width, if_fine, slot_rule, one_more, rules_of,
 
 -- ---- words, slot by slot
 
-joined_long : {X : Type 0} (f : X → List ℕ) (w : ℕ) → ((x : X) → length (f x) ≡ w) → (xs : List X) → length (flat_map f xs) ≡ w * length xs
+pub joined_long : {X : Type 0} (f : X → List ℕ) (w : ℕ) → ((x : X) → length (f x) ≡ w) → (xs : List X) → length (flat_map f xs) ≡ w * length xs
 joined_long f w h [] = omega arith
 joined_long f w h (x ∷ xs) = length-append (f x) (flat_map f xs) ∙ omega (arith, h x, joined_long f w h xs)
 
 -- the k-th of slots that are all w words wide
-drop_slots : {X : Type 0} (f : X → List ℕ) (w : ℕ) → ((x : X) → length (f x) ≡ w) → (xs : List X) (ys : List ℕ) (k : ℕ) (d : X) → k < length xs →
+pub drop_slots : {X : Type 0} (f : X → List ℕ) (w : ℕ) → ((x : X) → length (f x) ≡ w) → (xs : List X) (ys : List ℕ) (k : ℕ) (d : X) → k < length xs →
     drop (w * k) (flat_map f xs ++ ys) ≡ f (get_or xs k d) ++ (flat_map f (drop (suc k) xs) ++ ys)
 drop_slots f w h [] ys k d l = absurd (omega arith)
 drop_slots f w h (x ∷ xs) ys zero d l = let z : w * 0 ≡ 0 = omega arith in ap (λ (n : ℕ). drop n ((f x ++ flat_map f xs) ++ ys)) z ∙ append_assoc (f x) (flat_map f xs) ys

@@ -53,7 +53,7 @@ lowest_is rs b x =
     ]
 
 -- and nothing else says that
-only : (f : ℕ → ℤ) (x e : ℕ) (m n : Option ℤ) → Lowest f x e m → Lowest f x e n → m ≡ n
+pub only : (f : ℕ → ℤ) (x e : ℕ) (m n : Option ℤ) → Lowest f x e m → Lowest f x e n → m ≡ n
 only f x e None None l k = refl
 only f x e None (Some n) l k = let i = k.1 in absurd (omega (arith, l, i.1, i.2))
 only f x e (Some m) None l k = let i = l.1 in absurd (omega (arith, k, i.1, i.2))

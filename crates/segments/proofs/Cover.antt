@@ -1,7 +1,7 @@
 -- The segments of a book, one after the other: they cover every earning up to the bound once, and are few.
-use Rattle.std.proofs.Common.{◌≡◌, ℕ, zero, suc, ◌+◌, ◌*◌, ◌<◌, ◌≤◌, true, false, ◌&&◌, eqb, ltb, leb, List, [], ◌∷◌, length, refl, inl, inr, arith}
+use Rattle.std.proofs.Common.{◌≡◌, ℕ, zero, suc, ◌+◌, ◌*◌, ◌<◌, ◌≤◌, true, false, ◌&&◌, eqb, ltb, leb, List, [], ◌∷◌, length, sym, refl, ap, ◌∙◌, inl, inr, arith}
 use Rattle.std.specs.List.{AllByRecursion}
-use Rattle.std.proofs.lemmas.Bool.{cases_Bool, or_cases, eqb-true, leb-true, leb-false, cases_lt}
+use Rattle.std.proofs.lemmas.Bool.{cases_Bool, or_cases, eqb-true, leb-true, leb-false, le-leb, cases_lt}
 use Rattle.raise.specs.Rules.{pick, Rule, takes, gives, takes_sum, gives_sum, fades}
 use Rattle.raise.specs.Net.{breakpoints, among}
 use Rattle.raise.proofs.Straight.{net_straight}
@@ -76,12 +76,55 @@ module _ (rs : List Rule) (b : ℕ) where
         | inr u ↦ rw u (omega (arith, leb-false x b u))
       ]
 
-  each : (n x : ℕ) → AllByRecursion (SegmentOf rs b) (segments_from rs b n x)
+  pub each : (n x : ℕ) → AllByRecursion (SegmentOf rs b) (segments_from rs b n x)
   unfolding segments_from
   each zero x = tt
   each (suc n) x = elim (cases_Bool (leb x b)) [ inl t ↦ rw t (segment_right x (leb-true x b t), each n (next_breakpoint rs b x)) | inr u ↦ rw u tt ]
 
-  at_most : (n x : ℕ) → length (segments_from rs b n x) ≤ n
+  pub each_sized : (n x : ℕ) → b ≤ 1000000000 → Within rs → AllByRecursion Sized (segments_from rs b n x)
+  unfolding segments_from
+  each_sized zero x low w = tt
+  each_sized (suc n) x low w =
+      elim (cases_Bool (leb x b)) [
+        | inl t ↦
+            let m = leb-true x b t in
+            let y = next_breakpoints rs b x m in
+            rw t (segment_sized x m (omega (arith, y.within)) w, each_sized n (next_breakpoint rs b x) low w)
+        | inr u ↦ rw u tt
+      ]
+
+  -- fuel beyond the points that are left changes nothing
+  enough : (n x : ℕ) → (x ≤ b → above (breakpoints rs) x < n) → segments_from rs b (suc n) x ≡ segments_from rs b n x
+  unfolding segments_from
+  enough zero x few = elim (cases_Bool (leb x b)) [ inl t ↦ absurd (omega (arith, few (leb-true x b t))) | inr u ↦ rw u refl ]
+  enough (suc n) x few =
+      elim (cases_Bool (leb x b)) [
+        | inl t ↦
+            let m = leb-true x b t in
+            let y = next_breakpoints rs b x m in
+            let i = enough n (next_breakpoint rs b x) (λ h. elim y.reached [
+              | inl point ↦ omega (arith, one_less (breakpoints rs) x (next_breakpoint rs b x) point y.above, few m)
+              | inr end ↦ absurd (omega arith)
+            ]) in
+            rw t (ap (λ (ss : List Segment). segment_at rs b x ∷ ss) i)
+        | inr u ↦ rw u refl
+      ]
+
+  -- all segments from x on: the one there, and all from the next breakpoint on
+  pub one_more : (x : ℕ) → x ≤ b → segments_from rs b (2 * length rs + 1) x ≡ segment_at rs b x ∷ segments_from rs b (2 * length rs + 1) (next_breakpoint rs b x)
+  unfolding segments_from
+  one_more x le =
+      let n = 2 * length rs in
+      let z : n + 1 ≡ suc n = omega arith in
+      let t : leb x b ≡ true = le-leb x b le in
+      let y = next_breakpoints rs b x le in
+      let i = enough n (next_breakpoint rs b x) (λ h. elim y.reached [
+        | inl point ↦ omega (arith, one_less (breakpoints rs) x (next_breakpoint rs b x) point y.above, no_more (breakpoints rs) 0 x (omega arith), at_most_two rs)
+        | inr end ↦ absurd (omega arith)
+      ]) in
+      ap (λ (k : ℕ). segments_from rs b k x) z ∙ rw t (ap (λ (ss : List Segment). segment_at rs b x ∷ ss) (sym i)) ∙ ap (λ (k : ℕ). segment_at rs b x ∷ segments_from rs b k (next_breakpoint rs b x)) (sym z)
+
+  pub at_most : (n x : ℕ) → length (segments_from rs b n x) ≤ n
   unfolding segments_from
   at_most zero x = omega arith
   at_most (suc n) x = elim (cases_Bool (leb x b)) [ inl t ↦ rw t (omega (arith, at_most n (next_breakpoint rs b x))) | inr u ↦ rw u (omega arith) ]

@@ -1,0 +1,3 @@
+pub mod Below
+pub mod Entries
+pub mod Table

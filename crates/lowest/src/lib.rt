@@ -1,0 +1,9 @@
+// From the bound down: each segment with the lowest net of all greater grosses beyond it. This crate owns the table of these, its
+// entries as words, and the walk that writes it into a part of the lent memory.
+#![tactic(auto)]
+
+mod below;
+mod entries;
+mod table;
+
+pub use entries::{ENTRY, Entry, read_entry};

@@ -1,0 +1,51 @@
+// The walk from the bound down, by the next breakpoint below, that writes the table.
+ghost use Rattle.std.specs.Prelude.{◌≡◌, ◌+◌, ◌*◌, ◌≤◌, ◌++◌, length, take, drop};
+ghost use Rattle.std.specs.List.{AllByRecursion};
+ghost use Rattle.lowest.specs.Entries.{width, entry_words, table_words};
+ghost use Rattle.lowest.specs.Table.{table, most_entries, with_table, IsTable, SizedEntry, TableTells, Stored};
+
+use crate::below::latest;
+use crate::entries::{ENTRY, Entry};
+use book::Book;
+use segments::{segment_from, span_of};
+
+// The i-th entry of a part, written.
+fn put_entry(part: &mut [u64], i: usize, entry: Entry)
+    requires { width * i + width ≤ length part.old }
+    ensures { part.new ≡ take (width * i) part.old ++ (entry_words entry ++ drop (width * i + width) part.old) }
+{
+    let at = ENTRY * i;
+    part[at..at + ENTRY].copy_from_slice(&entry.words());
+}
+
+// The table from the beginning of the part on, and how many entries it has.
+fn write_entries(part: &mut [u64], book: &Book) -> usize
+    requires { width * most_entries book.now.rules ≤ length part.old }
+    ensures count { result ≡ length (table book.now.rules book.now.bound) }
+    ensures part { part.new ≡ table_words (table book.now.rules book.now.bound) ++ drop (width * result) part.old }
+{
+    let mut count = 0;
+    let mut to = book.bound() + 1;
+    let mut lowest_above = None;
+    'breakpoints: loop {
+        let mut from = 0;
+        let mut left = book.rules();
+        'rules: loop {
+            let [rule, rest @ ..] = left else {
+                let segment = segment_from(book, from);
+                let entry = Entry { segment, lowest_above };
+                put_entry(part, count, entry);
+                count += 1;
+                if from == 0 {
+                    break 'breakpoints;
+                }
+                to = from;
+                lowest_above = Some(entry.lowest());
+                continue 'breakpoints;
+            };
+            from = latest(span_of(*rule), to, from);
+            left = rest;
+        }
+    }
+    count
+}
