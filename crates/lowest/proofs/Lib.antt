@@ -1,2 +1,3 @@
 pub mod Points
 pub mod Walk
+pub mod Tells

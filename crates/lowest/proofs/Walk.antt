@@ -25,7 +25,7 @@ lowest_long : (m : Option ℤ) → length (lowest_words m) ≡ 2
 lowest_long None = refl
 lowest_long (Some m) = refl
 
-entry_long : (e : Entry) → length (entry_words e) ≡ width
+pub entry_long : (e : Entry) → length (entry_words e) ≡ width
 entry_long e = omega (arith, lowest_long e.lowest_above)
 
 pub table_long : (es : List Entry) → length (table_words es) ≡ width * length es

@@ -7,3 +7,4 @@ mod entries;
 mod table;
 
 pub use entries::{ENTRY, Entry, read_entry};
+pub use table::write_table;

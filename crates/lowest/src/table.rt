@@ -1,7 +1,7 @@
 // The walk from the bound down, by the next breakpoint below, that writes the table.
 ghost use Rattle.std.specs.Prelude.{◌≡◌, ◌+◌, ◌*◌, ◌≤◌, ◌++◌, length, take, drop};
 ghost use Rattle.std.specs.List.{AllByRecursion};
-ghost use Rattle.lowest.specs.Entries.{width, entry_words, table_words};
+ghost use Rattle.lowest.specs.Entries.{width, entry_words, table_words, Fits};
 ghost use Rattle.lowest.specs.Table.{table, most_entries, with_table, IsTable, SizedEntry, TableTells, Stored};
 
 use crate::below::latest;
@@ -23,6 +23,8 @@ fn write_entries(part: &mut [u64], book: &Book) -> usize
     requires { width * most_entries book.now.rules ≤ length part.old }
     ensures count { result ≡ length (table book.now.rules book.now.bound) }
     ensures part { part.new ≡ table_words (table book.now.rules book.now.bound) ++ drop (width * result) part.old }
+    ensures sized { AllByRecursion SizedEntry (table book.now.rules book.now.bound) }
+    ensures fits { AllByRecursion Fits (table book.now.rules book.now.bound) }
 {
     let mut count = 0;
     let mut to = book.bound() + 1;
@@ -48,4 +50,20 @@ fn write_entries(part: &mut [u64], book: &Book) -> usize
         }
     }
     count
+}
+
+// The table of the book, in a part of the words that begins at the `at`-th, and how many entries it has: the segments of the book
+// from the last down to the first, each with the lowest net of all greater grosses beyond it. By it alone one can say of every
+// gross up to the bound whether it loses. The words outside the entries stay.
+pub fn write_table(words: &mut [u64], at: usize, book: &Book) -> usize
+    requires { at + width * most_entries book.now.rules ≤ length words.old }
+    ensures count { result ≡ length (table book.now.rules book.now.bound) }
+    ensures few { result ≤ most_entries book.now.rules }
+    ensures words { words.new ≡ with_table words.old at (table book.now.rules book.now.bound) }
+    ensures stored { Stored (drop at words.new) (table book.now.rules book.now.bound) }
+    ensures sized { AllByRecursion SizedEntry (table book.now.rules book.now.bound) }
+    ensures table { IsTable }
+    ensures tells { TableTells }
+{
+    write_entries(&mut words[at..], book)
 }

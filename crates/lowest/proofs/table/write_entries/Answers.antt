@@ -8,6 +8,7 @@ use Rattle.lowest.specs.Below.{greatest_below, breakpoint_below, latest}
 use Rattle.lowest.specs.Entries.{width}
 use Rattle.lowest.proofs.Points.{by_rule, by_all_rules}
 use Rattle.lowest.proofs.Walk.{At, begins, below, within, room, counted, written, goes_on, all_from}
+use Rattle.lowest.proofs.Tells.{table_sized, table_fits}
 use Rattle.lowest.proofs.table.write_entries.Goals as goal
 
 pub breakpoints-init : goal.breakpoints-init
@@ -70,3 +71,9 @@ returns-clause-part c =
     let w = written rs b c.args.part.now c.rules.to c.rules.from c.rules.count c.rules.lowest_above-1 c.rules.part i.0 e c.segment_from-segment.result c.segment_from-segment.ensures.segment
     c.put_entry.new.part c.put_entry.ensures in
     rw (c.if-from-eq0.true, all_from rs b) at w
+
+pub returns-clause-sized : goal.returns-clause-sized
+returns-clause-sized c = table_sized c.args.book.now.rules c.args.book.now.bound (rw (← c.bound-to.ensures.value) c.bound-to.ensures.low) c.rules-left.ensures.within
+
+pub returns-clause-fits : goal.returns-clause-fits
+returns-clause-fits c = table_fits c.args.book.now.rules c.args.book.now.bound (rw (← c.bound-to.ensures.value) c.bound-to.ensures.low) c.rules-left.ensures.within
