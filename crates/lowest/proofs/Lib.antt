@@ -1,3 +1,5 @@
+pub mod Lists
 pub mod Points
+pub mod Words
 pub mod Walk
 pub mod Tells

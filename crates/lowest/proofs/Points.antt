@@ -1,13 +1,12 @@
 -- The next breakpoint below: what it is, that the segment from it on ends where it was sought from, and how it is found rule by rule.
-use Rattle.std.proofs.Common.{◌≡◌, ℕ, zero, suc, ◌+◌, ◌-◌, ◌<◌, ◌≤◌, true, ◌&&◌, ◌||◌, eqb, ltb, leb, ◌⊎◌, List, [], ◌∷◌, length, get_or, take, drop, Some, None, Option, sym, refl, ap, ◌∙◌, inl, inr, arith}
+use Rattle.std.proofs.Common.{◌≡◌, ℕ, zero, suc, ◌-◌, ◌<◌, ◌≤◌, true, ◌&&◌, ◌||◌, eqb, ltb, leb, ◌⊎◌, List, [], ◌∷◌, length, get_or, take, drop, Some, None, Option, sym, refl, ap, ◌∙◌, inl, inr, arith}
 use Rattle.std.proofs.lemmas.List.{take_rest}
 use Rattle.std.proofs.lemmas.Bool.{cases_Bool, cases_lt, or_cases, and_parts, and_cases, and_from, or_left, or_right, le-leb, leb-true, eq-eqb, eqb-true, ltb-true, ltb-false}
-use Rattle.raise.specs.Rules.{pick, Rule, takes, gives, takes_sum, gives_sum, fades}
+use Rattle.raise.specs.Rules.{Rule, takes, gives, takes_sum, gives_sum, fades}
 use Rattle.raise.specs.Net.{breaks, breakpoints, clear, among}
 use Rattle.wire.specs.declared.calls.Rule as declared
 use Rattle.wire.specs.Meaning.{meant}
 use Rattle.book.specs.Meant.{all_meant}
-use Rattle.segments.specs.declared.spans.Span.{Span}
 use Rattle.segments.specs.Points.{next_breakpoint, Next}
 use Rattle.segments.specs.Spans.{span, before}
 use Rattle.segments.proofs.Points.{next_breakpoints, span_ends}

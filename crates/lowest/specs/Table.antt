@@ -1,5 +1,5 @@
 -- The table: each segment of a book with the lowest net beyond it, from the last down to the first. Nothing is assumed.
-use Rattle.std.specs.Prelude.{◌≡◌, ℕ, suc, ◌+◌, ◌*◌, ◌<◌, ◌≤◌, Bool, false, ◌↔◌, List, [], ◌∷◌, ◌++◌, map, reverse, length, take, drop, None, Option, IfSome, slice_get, unsigned_abs}
+use Rattle.std.specs.Prelude.{◌≡◌, ℕ, suc, ◌+◌, ◌*◌, ◌<◌, ◌≤◌, Bool, false, ◌↔◌, List, [], ◌∷◌, ◌++◌, map, reverse, length, take, drop, None, IfSome, slice_get, unsigned_abs}
 use Rattle.std.specs.List.{AllByRecursion}
 use Rattle.raise.specs.Rules.{pick, Rule, loses}
 use Rattle.raise.specs.Net.{net}

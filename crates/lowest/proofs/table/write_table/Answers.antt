@@ -1,10 +1,11 @@
-use Rattle.std.proofs.Common.{◌≡◌, ℕ, ◌+◌, ◌*◌, ◌≤◌, List, ◌-◌, ◌++◌, length, take, drop, sym, refl, ap, ◌∙◌, append_assoc, arith}
+use Rattle.std.proofs.Common.{◌≡◌, ℕ, ◌*◌, List, ◌-◌, ◌++◌, length, take, drop, ap, ◌∙◌, append_assoc, arith}
 use borrow.Rule.Slice.PartMut.{put_mid}
 use Rattle.std.proofs.lemmas.List.{drop_at, length-take-le}
 use Rattle.lowest.specs.Entries.{width, table_words, entry_of}
-use Rattle.lowest.specs.Table.{table, Stored}
+use Rattle.lowest.specs.Table.{table}
 use Rattle.lowest.proofs.Walk.{few, all_from}
-use Rattle.lowest.proofs.Tells.{is_table, table_tells, stored}
+use Rattle.lowest.proofs.Words.{stored}
+use Rattle.lowest.proofs.Tells.{is_table, table_tells}
 use Rattle.lowest.proofs.table.write_table.Goals as goal
 
 pub returns-clause-few : goal.returns-clause-few

@@ -1,0 +1,61 @@
+-- Entries in words: how many these are, one entry more behind others, and what reads back.
+use Rattle.std.proofs.Common.{◌≡◌, ℕ, suc, ◌+◌, ◌*◌, true, ltb, List, [], ◌∷◌, ◌++◌, length, get_or, take, drop, ℤ, pos, Some, None, Option, sym, refl, ap, ◌∙◌, append_assoc, w64, arith}
+use Rattle.std.specs.List.{AllByRecursion, flat_map}
+use Rattle.std.proofs.lemmas.Int.{to_z-of_z}
+use Rattle.std.proofs.lemmas.Option.{slice_get-get_or}
+use Rattle.std.proofs.lemmas.List.{flat_map_more, take_at, drop_at, drop-drop}
+use Rattle.std.proofs.lemmas.Bool.{lt-ltb}
+use Rattle.book.proofs.Places.{joined_long, drop_slots}
+use Rattle.segments.specs.declared.lines.Segment.{Segment}
+use Rattle.lowest.specs.declared.entries.Entry.{Entry}
+use Rattle.lowest.specs.Entries.{width, lowest_words, entry_words, table_words, entry_of, Fits, ReadsBack}
+use Rattle.lowest.specs.Table.{Stored}
+use Rattle.lowest.proofs.Lists.{all_at}
+
+lowest_long : (m : Option ℤ) → length (lowest_words m) ≡ 2
+lowest_long None = refl
+lowest_long (Some m) = refl
+
+entry_long : (e : Entry) → length (entry_words e) ≡ width
+entry_long e = omega (arith, lowest_long e.lowest_above)
+
+pub table_long : (es : List Entry) → length (table_words es) ≡ width * length es
+table_long es = joined_long entry_words width entry_long es
+
+-- one entry more behind those that were written
+pub one_written : (es : List Entry) (e : Entry) (ws us : List ℕ) → us ≡ table_words es ++ drop (width * length es) ws →
+    take (width * length es) us ++ (entry_words e ++ drop (width * length es + width) us) ≡ table_words (es ++ (e ∷ [])) ++ drop (width * (length es + 1)) ws
+one_written es e ws us h =
+    let k = width * length es in
+    let t : take k us ≡ table_words es = ap (take k) h ∙ take_at (table_words es) (drop k ws) k (table_long es) in
+    let d : drop k us ≡ drop k ws = ap (drop k) h ∙ drop_at (table_words es) (drop k ws) k (table_long es) in
+    let q : drop (k + width) us ≡ drop (width * (length es + 1)) ws =
+    sym (drop-drop width k us) ∙ ap (drop width) d ∙ drop-drop width k ws ∙ ap (λ (n : ℕ). drop n ws) (omega arith) in
+    let z : table_words es ++ entry_words e ≡ table_words (es ++ (e ∷ [])) = flat_map_more entry_words [] es e in
+    ap (λ (x : List ℕ). x ++ (entry_words e ++ drop (k + width) us)) t ∙ ap (λ (x : List ℕ). table_words es ++ (entry_words e ++ x)) q ∙
+    sym (append_assoc (table_words es) (entry_words e) (drop (width * (length es + 1)) ws)) ∙ ap (λ (x : List ℕ). x ++ drop (width * (length es + 1)) ws) z
+
+-- ---- back from words
+
+back : (s : Segment) (m : Option ℤ) → Fits (record { segment = s; lowest_above = m }) → entry_of (entry_words (record { segment = s; lowest_above = m })) ≡ Some (record { segment = s; lowest_above = m })
+back s None f =
+    let p : ltb s.from 4294967296 ≡ true = lt-ltb _ _ (omega (arith, f.from)) in
+    let q : ltb s.to 4294967296 ≡ true = lt-ltb _ _ (omega (arith, f.to)) in
+    rw (p, q, to_z-of_z w64 s.net f.net, to_z-of_z w64 s.slope f.slope) refl
+back s (Some m) f =
+    let p : ltb s.from 4294967296 ≡ true = lt-ltb _ _ (omega (arith, f.from)) in
+    let q : ltb s.to 4294967296 ≡ true = lt-ltb _ _ (omega (arith, f.to)) in
+    rw (p, q, to_z-of_z w64 s.net f.net, to_z-of_z w64 s.slope f.slope, to_z-of_z w64 m f.lowest) refl
+
+pub reads_back : ReadsBack
+reads_back e f = back e.segment e.lowest_above f
+
+nothing : Entry
+nothing = record { segment = record { from = 0; to = 0; net = pos 0; slope = pos 0 }; lowest_above = None }
+
+pub stored : (es : List Entry) (ys : List ℕ) → AllByRecursion Fits es → Stored (table_words es ++ ys) es
+stored es ys a i l =
+    let e = get_or es i nothing in
+    let d = drop_slots entry_words width entry_long es ys i nothing l in
+    ap (λ (ws : List ℕ). entry_of (take width ws)) d ∙ ap entry_of (take_at (entry_words e) (flat_map entry_words (drop (suc i) es) ++ ys) width (entry_long e)) ∙
+    reads_back e (all_at Fits es i nothing l a) ∙ sym (slice_get-get_or es i nothing l)
