@@ -17,7 +17,7 @@ use Rattle.segments.proofs.Paces.{net_small}
 use Rattle.segments.proofs.Cover.{each, each_sized, segments_cover}
 use Rattle.lowest.specs.declared.entries.Entry.{Entry}
 use Rattle.lowest.specs.Entries.{Fits}
-use Rattle.lowest.specs.Table.{entry, table, EntryOf, IsTable, SizedEntry, loses_by, TableTells}
+use Rattle.lowest.specs.Table.{entry, table, EntryOf, TableOf, IsTable, SizedEntry, loses_by, TableTells}
 use Rattle.lowest.proofs.Lists.{all_back, all_map, all_both}
 use Rattle.lowest.proofs.Walk.{segment_line}
 
@@ -39,13 +39,26 @@ module _ (rs : List Rule) (b : ℕ) where
         );
       }
 
-pub is_table : IsTable
+table_is : (rs : List Rule) (b : ℕ) → TableOf rs b (table rs b)
 unfolding table
-is_table rs b =
+table_is rs b =
     record {
       segments = map-map (λ (e : Entry). e.segment) (entry rs b) (reverse (segments rs b)) ∙ map-id (reverse (segments rs b));
       each = all_map (SegmentOf rs b) (EntryOf rs b) (entry rs b) (entry_of_segment rs b) (reverse (segments rs b)) (all_back (SegmentOf rs b) (segments rs b) (each rs b (2 * length rs + 1) 0));
     }
+
+-- the lowest beyond is told by the segment
+told : (rs : List Rule) (b : ℕ) (e : Entry) → EntryOf rs b e → e.lowest_above ≡ lowest_from rs b e.segment.to
+told rs b e i = only (net rs) e.segment.to (suc b) e.lowest_above (lowest_from rs b e.segment.to) i.lowest (lowest_is rs b e.segment.to)
+
+by_segments : (rs : List Rule) (b : ℕ) (es : List Entry) → AllByRecursion (EntryOf rs b) es → es ≡ map (entry rs b) (map (λ (e : Entry). e.segment) es)
+by_segments rs b [] a = refl
+by_segments rs b (e ∷ es) a =
+    ap (λ (m : Option ℤ). record { segment = e.segment; lowest_above = m } ∷ es) (told rs b e a.0) ∙ ap (λ (ds : List Entry). entry rs b e.segment ∷ ds) (by_segments rs b es a.1)
+
+pub is_table : IsTable
+unfolding table
+is_table rs b = (table_is rs b, λ es t. by_segments rs b es t.each ∙ ap (map (entry rs b)) t.segments)
 
 -- ---- who loses
 
@@ -68,9 +81,8 @@ by_entries rs b (e ∷ es) g a some =
     elim (cases_Bool (leb s.from g && ltb g s.to)) [
       | inl t ↦
           let p = and_parts (leb s.from g) (ltb g s.to) t in
-          let m = only (net rs) s.to (suc b) e.lowest_above (lowest_from rs b s.to) i.lowest (lowest_is rs b s.to) in
           let l = on_a_line rs b s.from s.to s.net s.slope (segment_line rs b s i.segment) g (leb-true _ _ p.0) (ltb-true _ _ p.1) in
-          rw (t, m) (sym l)
+          rw (t, told rs b e i) (sym l)
       | inr u ↦ rw u (by_entries rs b es g a.1 (omega (arith, rw u at some)))
     ]
 
@@ -114,4 +126,4 @@ module _ (rs : List Rule) (b : ℕ) (low : b ≤ 1000000000) (w : Within rs) whe
       }
 
   pub table_fits : AllByRecursion Fits (table rs b)
-  table_fits = all_both (EntryOf rs b) SizedEntry Fits fits (table rs b) (is_table rs b).each table_sized
+  table_fits = all_both (EntryOf rs b) SizedEntry Fits fits (table rs b) (table_is rs b).each table_sized

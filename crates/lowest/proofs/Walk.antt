@@ -42,6 +42,9 @@ module _ (rs : List Rule) (b : ℕ) where
   unfolding entries_from table
   all_from = refl
 
+  pub few_in : length (table rs b) ≤ most_entries rs
+  few_in = rw (← all_from) (few 0)
+
   pub one_below : (x y : ℕ) → Stands rs b x → Below rs b x y → entries_from y ≡ entries_from x ++ (record { segment = segment_at rs b y; lowest_above = lowest_from rs b x } ∷ [])
   unfolding entries_from
   one_below x y at i =
@@ -52,22 +55,32 @@ module _ (rs : List Rule) (b : ℕ) where
       ap (λ (z : ℕ). map (entry rs b) (reverse ss) ++ (record { segment = s; lowest_above = lowest_from rs b z } ∷ [])) i.next
 
   -- where the walk stands, how many entries there are, the lowest from there on, and the words, of which ws were there before
-  pub record At (ws : List ℕ) (x count : ℕ) (m : Option ℤ) (us : List ℕ) : Type 0 where
+  pub record State (ws : List ℕ) (x count : ℕ) (m : Option ℤ) (us : List ℕ) : Type 0 where
     pub stands : Stands rs b x
     pub counted : count ≡ length (entries_from x)
     pub lowest : m ≡ lowest_from rs b x
     pub written : us ≡ table_words (entries_from x) ++ drop (width * count) ws
 
-  pub begins : (ws : List ℕ) (x : ℕ) → x ≡ b + 1 → At ws x 0 None ws
+  -- closed, so that a search goes by the lemmas about it
+  pub data At (ws : List ℕ) (x count : ℕ) (m : Option ℤ) (us : List ℕ) : Type 0 where
+    at : State ws x count m us → At ws x count m us
+
+  state : {ws : List ℕ} {x count : ℕ} {m : Option ℤ} {us : List ℕ} → At ws x count m us → State ws x count m us
+  state (at s) = s
+
+  pub begins : (ws : List ℕ) (n : ℕ) → n ≡ b → At ws (n + 1) 0 None ws
   unfolding least_over
-  begins ws x e =
-      let s : x ≡ suc b = omega arith in
-      let z : suc b - x ≡ 0 = omega arith in
-      let n : entries_from x ≡ [] = ap entries_from s ∙ none_past in
-      record { stands = (omega arith, omega arith, inr s); counted = rw n refl; lowest = rw z refl; written = rw n refl }
+  begins ws n e =
+      let s : n + 1 ≡ suc b = omega arith in
+      let z : suc b - (n + 1) ≡ 0 = omega arith in
+      let m : entries_from (n + 1) ≡ [] = ap entries_from s ∙ none_past in
+      at (record { stands = (omega arith, omega arith, inr s); counted = rw m refl; lowest = rw z refl; written = rw m refl })
 
 -- one entry more, down to y
-module _ {rs : List Rule} {b : ℕ} {ws : List ℕ} {x count : ℕ} {m : Option ℤ} {us : List ℕ} (a : At rs b ws x count m us) (y : ℕ) (e : y ≡ breakpoint_below rs x) where
+module _ {rs : List Rule} {b : ℕ} {ws : List ℕ} {x count : ℕ} {m : Option ℤ} {us : List ℕ} (h : At rs b ws x count m us) (y : ℕ) (e : y ≡ breakpoint_below rs x) where
+  a : State rs b ws x count m us
+  a = state rs b h
+
   pub below : Below rs b x y
   below = rw e (is_below rs b x a.stands)
 
@@ -96,14 +109,14 @@ module _ {rs : List Rule} {b : ℕ} {ws : List ℕ} {x count : ℕ} {m : Option 
           rw (longer, a.counted) (rw a.counted at put ∙ w)
 
       pub goes_on : (low : ℤ) → (y ≡ 0 → ⊥) → low ≡ lowest_with s.from s.to s.net s.slope m → At rs b ws y (count + 1) (Some low) vs
-      goes_on low some h =
+      goes_on low some l =
           let n = next_breakpoint rs b y in
           let t = segment_at rs b y in
           let d = lowest_down rs b y n t.net t.slope (segment_line rs b t (segment_right rs b y within)) in
           let k : m ≡ lowest_from rs b n = a.lowest ∙ ap (lowest_from rs b) (sym below.next) in
-          record {
+          at (record {
             stands = (omega arith, omega (arith, within), inl below.point);
             counted = counted;
-            lowest = ap Some (h ∙ ap (λ (q : Segment). lowest_with q.from q.to q.net q.slope m) f) ∙ ap (λ (o : Option ℤ). Some (lowest_with y n t.net t.slope o)) k ∙ sym d;
+            lowest = ap Some (l ∙ ap (λ (q : Segment). lowest_with q.from q.to q.net q.slope m) f) ∙ ap (λ (o : Option ℤ). Some (lowest_with y n t.net t.slope o)) k ∙ sym d;
             written = written;
-          }
+          })

@@ -1,9 +1,10 @@
 -- Entries in words: how many these are, one entry more behind others, and what reads back.
-use Rattle.std.proofs.Common.{◌≡◌, ℕ, suc, ◌+◌, ◌*◌, true, ltb, List, [], ◌∷◌, ◌++◌, length, get_or, take, drop, ℤ, pos, Some, None, Option, sym, refl, ap, ◌∙◌, append_assoc, w64, arith}
+use Rattle.std.proofs.Common.{◌≡◌, ℕ, suc, ◌≤◌, ◌-◌, ◌+◌, ◌*◌, true, ltb, List, [], ◌∷◌, ◌++◌, length, get_or, take, drop, ℤ, pos, Some, None, Option, sym, refl, ap, ◌∙◌, append_assoc, w64, arith}
+use borrow.Rule.Slice.PartMut.{put_mid}
 use Rattle.std.specs.List.{AllByRecursion, flat_map}
 use Rattle.std.proofs.lemmas.Int.{to_z-of_z}
 use Rattle.std.proofs.lemmas.Option.{slice_get-get_or}
-use Rattle.std.proofs.lemmas.List.{flat_map_more, take_at, drop_at, drop-drop}
+use Rattle.std.proofs.lemmas.List.{flat_map_more, take_at, drop_at, drop-drop, length-take-le}
 use Rattle.std.proofs.lemmas.Bool.{lt-ltb}
 use Rattle.book.proofs.Places.{joined_long, drop_slots}
 use Rattle.segments.specs.declared.lines.Segment.{Segment}
@@ -53,9 +54,18 @@ reads_back e f = back e.segment e.lowest_above f
 nothing : Entry
 nothing = record { segment = record { from = 0; to = 0; net = pos 0; slope = pos 0 }; lowest_above = None }
 
-pub stored : (es : List Entry) (ys : List ℕ) → AllByRecursion Fits es → Stored (table_words es ++ ys) es
+stored : (es : List Entry) (ys : List ℕ) → AllByRecursion Fits es → Stored (table_words es ++ ys) es
+unfolding Stored
 stored es ys a i l =
     let e = get_or es i nothing in
     let d = drop_slots entry_words width entry_long es ys i nothing l in
     ap (λ (ws : List ℕ). entry_of (take width ws)) d ∙ ap entry_of (take_at (entry_words e) (flat_map entry_words (drop (suc i) es) ++ ys) width (entry_long e)) ∙
     reads_back e (all_at Fits es i nothing l a) ∙ sym (slice_get-get_or es i nothing l)
+
+-- in the part of ws from its k-th word on that us was written to
+pub stored_at : (k : ℕ) (ws us vs : List ℕ) (es : List Entry) → k ≤ length ws → us ≡ table_words es ++ vs → AllByRecursion Fits es → Stored (drop k (put_mid k (length ws - k) ws us)) es
+stored_at k ws us vs es l e a =
+    let rest = drop (length ws - k) (drop k ws) in
+    let d : drop k (put_mid k (length ws - k) ws us) ≡ us ++ rest = drop_at (take k ws) (us ++ rest) k (length-take-le k ws l) in
+    let f : us ++ rest ≡ table_words es ++ (vs ++ rest) = ap (λ (x : List ℕ). x ++ rest) e ∙ append_assoc (table_words es) vs rest in
+    rw (d ∙ f) (stored es (vs ++ rest) a)

@@ -39,8 +39,9 @@ pub record TableOf (rs : List Rule) (b : ℕ) (es : List Entry) : Type 0 where
   pub segments : map (λ e. e.segment) es ≡ reverse (segments rs b)
   pub each : AllByRecursion (EntryOf rs b) es
 
+-- the table does, and nothing else
 abbrev pub IsTable : Type 0
-IsTable = (rs : List Rule) (b : ℕ) → TableOf rs b (table rs b)
+IsTable = (rs : List Rule) (b : ℕ) → TableOf rs b (table rs b) × ((es : List Entry) → TableOf rs b es → es ≡ table rs b)
 
 -- sizes that leave room to compute with an entry
 pub record SizedEntry (e : Entry) : Type 0 where
@@ -61,5 +62,5 @@ TableTells = (rs : List Rule) (b : ℕ) (es : List Entry) → TableOf rs b es �
 -- ---- in words
 
 -- each entry of a table reads back from its place in the words
-abbrev pub Stored : List ℕ → List Entry → Type 0
+unfoldable pub Stored : List ℕ → List Entry → Type 0
 Stored ws es = (i : ℕ) → i < length es → entry_of (take width (drop (width * i) ws)) ≡ slice_get es i

@@ -21,7 +21,12 @@ impl Entry {
     pub(crate) fn words(self) -> [u64; ENTRY]
         ensures { result ≡ entry_words self }
     {
-        let Segment { from, to, net, slope } = self.segment;
+        let Segment {
+            from,
+            to,
+            net,
+            slope,
+        } = self.segment;
         let (known, lowest) = match self.lowest_above {
             None => (0, 0),
             Some(net) => (1, net.cast_unsigned()),
@@ -42,7 +47,10 @@ impl Entry {
         requires some { self.segment.from < self.segment.to }
         ensures { result ≡ lowest_with self.segment.from self.segment.to self.segment.net self.segment.slope self.lowest_above }
     {
-        let ends = self.segment.net.min(self.segment.net_at(self.segment.to - 1));
+        let ends = self
+            .segment
+            .net
+            .min(self.segment.net_at(self.segment.to - 1));
         match self.lowest_above {
             None => ends,
             Some(beyond) => ends.min(beyond),
@@ -67,5 +75,8 @@ pub fn read_entry(words: &[u64; ENTRY]) -> Option<Entry>
         1 => Some(lowest.cast_signed()),
         _ => return None,
     };
-    Some(Entry { segment, lowest_above })
+    Some(Entry {
+        segment,
+        lowest_above,
+    })
 }

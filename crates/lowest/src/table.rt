@@ -19,6 +19,7 @@ fn put_entry(part: &mut [u64], i: usize, entry: Entry)
 }
 
 // The table from the beginning of the part on, and how many entries it has.
+#[tactic(auto, using(crate::proofs::Walk::begins, crate::proofs::Points::by_rule))]
 fn write_entries(part: &mut [u64], book: &Book) -> usize
     requires { width * most_entries book.now.rules ≤ length part.old }
     ensures count { result ≡ length (table book.now.rules book.now.bound) }
@@ -33,20 +34,25 @@ fn write_entries(part: &mut [u64], book: &Book) -> usize
         let mut from = 0;
         let mut left = book.rules();
         'rules: loop {
-            let [rule, rest @ ..] = left else {
-                let segment = segment_from(book, from);
-                let entry = Entry { segment, lowest_above };
-                put_entry(part, count, entry);
-                count += 1;
-                if from == 0 {
-                    break 'breakpoints;
-                }
-                to = from;
-                lowest_above = Some(entry.lowest());
-                continue 'breakpoints;
+            if let [rule, rest @ ..] = left {
+                from = latest(span_of(*rule), to, from);
+                left = rest;
+                continue 'rules;
+            }
+            // Every rule was asked: `from` is the next breakpoint below `to`.
+            let segment = segment_from(book, from);
+            let entry = Entry {
+                segment,
+                lowest_above,
             };
-            from = latest(span_of(*rule), to, from);
-            left = rest;
+            put_entry(part, count, entry);
+            count += 1;
+            if from == 0 {
+                break 'breakpoints;
+            }
+            lowest_above = Some(entry.lowest());
+            to = from;
+            continue 'breakpoints;
         }
     }
     count
@@ -55,6 +61,7 @@ fn write_entries(part: &mut [u64], book: &Book) -> usize
 // The table of the book, in a part of the words that begins at the `at`-th, and how many entries it has: the segments of the book
 // from the last down to the first, each with the lowest net of all greater grosses beyond it. By it alone one can say of every
 // gross up to the bound whether it loses. The words outside the entries stay.
+#[tactic(auto, using(crate::proofs::Words::stored_at, crate::proofs::Walk::few_in, crate::proofs::Tells::table_tells))]
 pub fn write_table(words: &mut [u64], at: usize, book: &Book) -> usize
     requires { at + width * most_entries book.now.rules ≤ length words.old }
     ensures count { result ≡ length (table book.now.rules book.now.bound) }

@@ -1,12 +1,9 @@
-use Rattle.std.proofs.Common.{◌≡◌, refl, ◌∙◌, arith, w64, to_z, of_z}
+use Rattle.std.proofs.Common.{◌≡◌, ◌∙◌, arith, w64, to_z, of_z}
 use Rattle.std.proofs.lemmas.Int.{to_z-of_z}
-use Rattle.lowest.proofs.Points.{by_rule, by_all_rules}
-use Rattle.lowest.proofs.Walk.{begins, below, within, room, counted, written, goes_on, all_from}
+use Rattle.lowest.proofs.Points.{by_all_rules}
+use Rattle.lowest.proofs.Walk.{below, within, room, counted, written, goes_on, all_from}
 use Rattle.lowest.proofs.Tells.{table_sized, table_fits}
 use Rattle.lowest.proofs.table.write_entries.Goals as goal
-
-pub breakpoints-init : goal.breakpoints-init
-breakpoints-init c = begins c.args.book.now.rules c.args.book.now.bound c.args.part.now _ (rw c.bound-to.ensures.value refl)
 
 pub segment_from-segment-requires : goal.segment_from-segment-requires
 segment_from-segment-requires c =
@@ -33,11 +30,6 @@ breakpoints-preserved c =
     let s = c.segment_from-segment in
     let v : to_z w64 (of_z w64 c.lowest.result) ≡ c.lowest.result = to_z-of_z w64 c.lowest.result (record { sfits = c.lowest.type_inv }) in
     goes_on i.0 c.rules.from e s.result s.ensures.segment c.put_entry.new.part c.put_entry.ensures _ c.if-from-eq0.false (v ∙ c.lowest.ensures)
-
-pub rules-preserved : goal.rules-preserved
-rules-preserved c =
-    let i = c.rules.invariant in
-    (i.0, rw (c.latest-from.ensures, c.span_of.ensures.span) (by_rule c.rules.left.now _ c.rules.to c.rules.from c.in-len1-up.len_at_least ∙ i.1), i.2)
 
 pub returns-clause-count : goal.returns-clause-count
 returns-clause-count c =
