@@ -1,0 +1,74 @@
+// Books of rules, and what their tables must be.
+use book::{Book, is_fine};
+use lowest::{ENTRY, Entry, read_entry, write_table};
+use segments::Segment;
+use std::process::Abort;
+use std::test::Fail;
+use wire::Rule;
+
+pub(crate) const MOST: u32 = 1_000_000_000;
+
+// Room for a table of 64 rules, with words before and behind it.
+const WORDS: usize = 800;
+
+// Where the table begins.
+const AT: usize = 10;
+
+// What all words are before.
+const BEFORE: u64 = 0xb0b0_b0b0_b0b0_b0b0;
+
+pub(crate) fn lay(rt: &impl Abort, book: &mut Book, rule: Rule) -> Result<(), Fail> {
+    if !is_fine(rule) {
+        return Err(Fail::new("out of range"));
+    }
+    assert!(rt; book.lay(rule).is_some());
+    Ok(())
+}
+
+// A book of these rules.
+pub(crate) fn laid(rt: &impl Abort, bound: u32, rules: &[Rule]) -> Result<Book, Fail> {
+    if bound > MOST {
+        return Err(Fail::new("a bound out of range"));
+    }
+    let mut book = Book::new(64, bound);
+    for rule in rules {
+        lay(rt, &mut book, *rule)?;
+    }
+    Ok(book)
+}
+
+pub(crate) fn entry(from: u32, to: u32, net: i64, slope: i64, lowest_above: Option<i64>) -> Entry {
+    let segment = Segment {
+        from,
+        to,
+        net,
+        slope,
+    };
+    Entry {
+        segment,
+        lowest_above,
+    }
+}
+
+// The table of the book has just these entries, and the words around it stay.
+pub(crate) fn has(rt: &impl Abort, book: &Book, expected: &[Entry]) -> Result<(), Fail> {
+    let mut words = [BEFORE; WORDS];
+    if AT + ENTRY * (2 * book.rules().len() + 1) > WORDS {
+        return Err(Fail::new("too many rules"));
+    }
+    let count = write_table(&mut words, AT, book);
+    assert_eq!(rt; count, expected.len());
+    let (entries, _) = words[AT..].as_chunks::<ENTRY>();
+    for (words, entry) in entries.iter().zip(expected) {
+        assert_eq!(rt; read_entry(words), Some(*entry));
+    }
+    untouched(rt, &words[..AT]);
+    untouched(rt, &words[AT + ENTRY * count..]);
+    Ok(())
+}
+
+fn untouched(rt: &impl Abort, words: &[u64]) {
+    for word in words {
+        assert_eq!(rt; *word, BEFORE);
+    }
+}
