@@ -53,6 +53,25 @@ pub(crate) fn cut(rt: &impl Abort, book: &Book, expected: &[(u32, i64, i64)]) ->
     Ok(())
 }
 
+// On the segment from the first gross on, this is left of the second.
+pub(crate) fn along(
+    rt: &impl Abort,
+    book: &Book,
+    expected: &[(u32, u32, i64)],
+) -> Result<(), Fail> {
+    for (from, gross, net) in expected {
+        if *from > book.bound() {
+            return Err(Fail::new("above the bound"));
+        }
+        let segment = segment_from(book, *from);
+        if *gross < segment.from || segment.to <= *gross {
+            return Err(Fail::new("not on the segment"));
+        }
+        assert_eq!(rt; segment.net_at(*gross), *net);
+    }
+    Ok(())
+}
+
 // From each gross the next breakpoint is this.
 pub(crate) fn next(rt: &impl Abort, book: &Book, expected: &[(u32, u32)]) {
     for (gross, point) in expected {

@@ -1,5 +1,6 @@
 // Rules of every kind, and breakpoints at the edges.
 use crate::books::*;
+use segments::{Span, span_of};
 use std::test::Fail;
 use wire::RuleKind;
 
@@ -127,7 +128,31 @@ fn of_a_family(rt: HostRuntime) -> Result<(), Fail> {
         (3_000, 2),
     ];
     hold(&rt, &book, &holding);
-    Ok(())
+    along(
+        &rt,
+        &book,
+        &[(1_000, 1_499, 15_995_000), (1_501, 2_999, 25_992_000)],
+    )
+}
+
+#[test]
+fn where_each_holds(rt: HostRuntime) {
+    let spans = [
+        (RuleKind::Take.rule([10, 20, 1_000]), 10, Some(20)),
+        (RuleKind::Give.rule([0, MOST, 0]), 0, Some(1_000_000_000)),
+        (RuleKind::TakeSum.rule([3, 4, 7]), 3, Some(4)),
+        (RuleKind::GiveSum.rule([20, 10, 7]), 20, Some(10)),
+        (RuleKind::Fade.rule([5, 9_000, 9]), 5, Some(16)),
+        (
+            RuleKind::Fade.rule([MOST, 1, 100_000_000]),
+            MOST,
+            Some(1_001_000_000_001),
+        ),
+        (RuleKind::Fade.rule([5, 0, 9]), 5, None),
+    ];
+    for (rule, from, to) in spans {
+        assert_eq!(rt; span_of(rule), Span { from, to });
+    }
 }
 
 // A fade holds from its border to the last unit at which something may be left of it: exactly at a whole unit, inside one,
