@@ -10,7 +10,7 @@ use Rattle.book.specs.Meant.{all_meant}
 use Rattle.segments.specs.Points.{next_breakpoint, Next}
 use Rattle.segments.specs.Spans.{span, before}
 use Rattle.segments.proofs.Points.{next_breakpoints, span_ends}
-use Rattle.lowest.specs.Below.{later, greatest_below, breakpoint_below, later_end, latest}
+use Rattle.lowest.specs.Below.{nearer_below, greatest_below, breakpoint_below, nearer_end_below, nearest_below}
 
 -- ---- the greatest below
 
@@ -123,24 +123,20 @@ is_below rs b x at =
 
 -- ---- rule by rule
 
-by_ends : (from : ℕ) (to : Option ℕ) (xs : List ℕ) (x m : ℕ) → greatest_below (from ∷ before to xs) x m ≡ greatest_below xs x (later_end x to (later x from m))
+by_ends : (from : ℕ) (to : Option ℕ) (xs : List ℕ) (x m : ℕ) → greatest_below (from ∷ before to xs) x m ≡ greatest_below xs x (nearer_end_below x to (nearer_below x from m))
 unfolding greatest_below
 by_ends from None xs x m = refl
 by_ends from (Some y) xs x m = refl
 
 pub by_rule : (rs : List declared.Rule) (d : declared.Rule) (x m : ℕ) → 1 ≤ length rs →
-    greatest_below (breakpoints (all_meant (take (length rs - 1) (drop 1 rs)))) x (latest (span (meant (get_or rs 0 d))) x m) ≡ greatest_below (breakpoints (all_meant rs)) x m
+    greatest_below (breakpoints (all_meant (take (length rs - 1) (drop 1 rs)))) x (nearest_below (span (meant (get_or rs 0 d))) x m) ≡ greatest_below (breakpoints (all_meant rs)) x m
 by_rule [] d x m h = absurd (omega arith)
 by_rule (r ∷ rs) d x m h =
     let s = span (meant r) in
-    ap (λ (qs : List declared.Rule). greatest_below (breakpoints (all_meant qs)) x (latest s x m)) (take_rest (r ∷ rs) 1) ∙
+    ap (λ (qs : List declared.Rule). greatest_below (breakpoints (all_meant qs)) x (nearest_below s x m)) (take_rest (r ∷ rs) 1) ∙
     sym (by_ends s.from s.to (breakpoints (all_meant rs)) x m) ∙ ap (λ (ys : List ℕ). greatest_below ys x m) (sym (span_ends (meant r) (all_meant rs)))
 
-by_no_rule : (rs : List declared.Rule) (x m : ℕ) → length rs < 1 → m ≡ greatest_below (breakpoints (all_meant rs)) x m
+pub by_no_rule : (rs : List declared.Rule) (x m : ℕ) → length rs < 1 → m ≡ greatest_below (breakpoints (all_meant rs)) x m
 unfolding greatest_below breakpoints
 by_no_rule [] x m h = grind arith
 by_no_rule (r ∷ rs) x m h = absurd (omega arith)
-
--- once no rule is left
-pub by_all_rules : (rs : List Rule) (left : List declared.Rule) (x m : ℕ) → length left < 1 → greatest_below (breakpoints (all_meant left)) x m ≡ breakpoint_below rs x → m ≡ breakpoint_below rs x
-by_all_rules rs left x m h e = by_no_rule left x m h ∙ e

@@ -9,7 +9,7 @@ use Rattle.std.proofs.lemmas.Bool.{cases_Bool, and_parts, leb-true, ltb-true}
 use Rattle.raise.specs.Rules.{Rule, loses}
 use Rattle.raise.specs.Net.{net, on_line}
 use Rattle.raise.specs.Lowest.{least_over, lowest_from, Lowest}
-use Rattle.raise.proofs.Lows.{lowest_is, only, on_a_line}
+use Rattle.raise.proofs.Lows.{lowest_is, only, loses_on_a_line}
 use Rattle.book.specs.Held.{Within}
 use Rattle.segments.specs.declared.lines.Segment.{Segment}
 use Rattle.segments.specs.Segments.{SegmentOf, Sized, segments, how_many_on}
@@ -81,7 +81,7 @@ by_entries rs b (e ∷ es) g a some =
     elim (cases_Bool (leb s.from g && ltb g s.to)) [
       | inl t ↦
           let p = and_parts (leb s.from g) (ltb g s.to) t in
-          let l = on_a_line rs b s.from s.to s.net s.slope (segment_line rs b s i.segment) g (leb-true _ _ p.0) (ltb-true _ _ p.1) in
+          let l = loses_on_a_line rs b s.from s.to s.net s.slope (segment_line rs b s i.segment) g (leb-true _ _ p.0) (ltb-true _ _ p.1) in
           rw (t, told rs b e i) (sym l)
       | inr u ↦ rw u (by_entries rs b es g a.1 (omega (arith, rw u at some)))
     ]

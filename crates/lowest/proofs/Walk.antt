@@ -1,20 +1,23 @@
 -- The walk from the bound down: what has been written where it stands, and one entry more.
-use Rattle.std.proofs.Common.{◌≡◌, ℕ, suc, ◌+◌, ◌-◌, ◌*◌, ◌≤◌, false, leb, List, [], ◌∷◌, ◌++◌, map, reverse, length, take, drop, ℤ, Some, None, Option, sym, refl, ap, ◌∙◌, inl, inr, arith}
+use Rattle.std.proofs.Common.{◌≡◌, ℕ, suc, ◌+◌, ◌-◌, ◌*◌, ◌<◌, ◌≤◌, false, leb, List, [], ◌∷◌, ◌++◌, map, reverse, length, take, drop, ℤ, Some, None, Option, sym, refl, ap, ◌∙◌, inl, inr, arith}
 use Rattle.std.proofs.lemmas.Grind.{reverse_onto}
 use Rattle.std.proofs.lemmas.List.{length-reverse, length-map, length_push, map-append}
 use Rattle.std.proofs.lemmas.Bool.{lt-leb}
 use Rattle.raise.specs.Rules.{Rule}
 use Rattle.raise.specs.Lowest.{least_over, lowest_from, NetLine, lowest_with}
 use Rattle.raise.proofs.Lows.{lowest_down}
+use Rattle.raise.specs.Net.{breakpoints}
+use Rattle.wire.specs.declared.calls.Rule as declared
+use Rattle.book.specs.Meant.{all_meant}
 use Rattle.segments.specs.declared.lines.Segment.{Segment}
 use Rattle.segments.specs.Points.{next_breakpoint}
 use Rattle.segments.specs.Segments.{segment_at, SegmentOf, segments_from}
 use Rattle.segments.proofs.Cover.{one_more, at_most, segment_right}
 use Rattle.lowest.specs.declared.entries.Entry.{Entry}
-use Rattle.lowest.specs.Below.{breakpoint_below}
+use Rattle.lowest.specs.Below.{greatest_below, breakpoint_below}
 use Rattle.lowest.specs.Entries.{width, entry_words, table_words}
 use Rattle.lowest.specs.Table.{entry, table, most_entries}
-use Rattle.lowest.proofs.Points.{Stands, Below, is_below}
+use Rattle.lowest.proofs.Points.{Stands, Below, is_below, by_no_rule}
 use Rattle.lowest.proofs.Words.{one_written}
 
 -- a segment's line
@@ -76,13 +79,14 @@ module _ (rs : List Rule) (b : ℕ) where
       let m : entries_from (n + 1) ≡ [] = ap entries_from s ∙ none_past in
       at (record { stands = (omega arith, omega arith, inr s); counted = rw m refl; lowest = rw z refl; written = rw m refl })
 
--- one entry more, down to y
-module _ {rs : List Rule} {b : ℕ} {ws : List ℕ} {x count : ℕ} {m : Option ℤ} {us : List ℕ} (h : At rs b ws x count m us) (y : ℕ) (e : y ≡ breakpoint_below rs x) where
+-- one entry more, down to y, which was found once no rule was left to be asked
+module _ {rs : List Rule} {b : ℕ} {ws : List ℕ} {x count : ℕ} {m : Option ℤ} {us : List ℕ} (h : At rs b ws x count m us)
+    (left : List declared.Rule) (y : ℕ) (asked : greatest_below (breakpoints (all_meant left)) x y ≡ breakpoint_below rs x) (none : length left < 1) where
   a : State rs b ws x count m us
   a = state rs b h
 
   pub below : Below rs b x y
-  below = rw e (is_below rs b x a.stands)
+  below = rw (by_no_rule left x y none ∙ asked) (is_below rs b x a.stands)
 
   pub within : y ≤ b
   within = omega (arith, below.less, a.stands.1)

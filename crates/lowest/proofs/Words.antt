@@ -9,7 +9,7 @@ use Rattle.std.proofs.lemmas.Bool.{lt-ltb}
 use Rattle.book.proofs.Places.{joined_long, drop_slots}
 use Rattle.segments.specs.declared.lines.Segment.{Segment}
 use Rattle.lowest.specs.declared.entries.Entry.{Entry}
-use Rattle.lowest.specs.Entries.{width, lowest_words, entry_words, table_words, entry_of, Fits, ReadsBack}
+use Rattle.lowest.specs.Entries.{width, lowest_words, entry_words, table_words, read_entry, Fits, ReadsBack}
 use Rattle.lowest.specs.Table.{Stored}
 use Rattle.lowest.proofs.Lists.{all_at}
 
@@ -38,7 +38,7 @@ one_written es e ws us h =
 
 -- ---- back from words
 
-back : (s : Segment) (m : Option ℤ) → Fits (record { segment = s; lowest_above = m }) → entry_of (entry_words (record { segment = s; lowest_above = m })) ≡ Some (record { segment = s; lowest_above = m })
+back : (s : Segment) (m : Option ℤ) → Fits (record { segment = s; lowest_above = m }) → read_entry (entry_words (record { segment = s; lowest_above = m })) ≡ Some (record { segment = s; lowest_above = m })
 back s None f =
     let p : ltb s.from 4294967296 ≡ true = lt-ltb _ _ (omega (arith, f.from)) in
     let q : ltb s.to 4294967296 ≡ true = lt-ltb _ _ (omega (arith, f.to)) in
@@ -59,7 +59,7 @@ unfolding Stored
 stored es ys a i l =
     let e = get_or es i nothing in
     let d = drop_slots entry_words width entry_long es ys i nothing l in
-    ap (λ (ws : List ℕ). entry_of (take width ws)) d ∙ ap entry_of (take_at (entry_words e) (flat_map entry_words (drop (suc i) es) ++ ys) width (entry_long e)) ∙
+    ap (λ (ws : List ℕ). read_entry (take width ws)) d ∙ ap read_entry (take_at (entry_words e) (flat_map entry_words (drop (suc i) es) ++ ys) width (entry_long e)) ∙
     reads_back e (all_at Fits es i nothing l a) ∙ sym (slice_get-get_or es i nothing l)
 
 -- in the part of ws from its k-th word on that us was written to

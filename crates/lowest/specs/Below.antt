@@ -5,22 +5,22 @@ use Rattle.raise.specs.Net.{breakpoints}
 use Rattle.segments.specs.declared.spans.Span.{Span}
 
 -- y, if it is below x and above m
-abbrev pub later : ℕ → ℕ → ℕ → ℕ
-later x y m = pick (nat_lt m y && nat_lt y x) y m
+abbrev pub nearer_below : ℕ → ℕ → ℕ → ℕ
+nearer_below x y m = pick (nat_lt m y && nat_lt y x) y m
 
 -- the greatest of the points below x, or m where none of these is above m
 unfoldable pub greatest_below : List ℕ → ℕ → ℕ → ℕ
 greatest_below [] x m = m
-greatest_below (y ∷ ys) x m = greatest_below ys x (later x y m)
+greatest_below (y ∷ ys) x m = greatest_below ys x (nearer_below x y m)
 
 -- the next breakpoint below x; 0 is one
 abbrev pub breakpoint_below : List Rule → ℕ → ℕ
 breakpoint_below rs x = greatest_below (breakpoints rs) x 0
 
 -- by an end, if there is one, and by both ends of a span
-abbrev pub later_end : ℕ → Option ℕ → ℕ → ℕ
-later_end x None m = m
-later_end x (Some y) m = later x y m
+abbrev pub nearer_end_below : ℕ → Option ℕ → ℕ → ℕ
+nearer_end_below x None m = m
+nearer_end_below x (Some y) m = nearer_below x y m
 
-abbrev pub latest : Span → ℕ → ℕ → ℕ
-latest s x m = later_end x s.to (later x s.from m)
+abbrev pub nearest_below : Span → ℕ → ℕ → ℕ
+nearest_below s x m = nearer_end_below x s.to (nearer_below x s.from m)

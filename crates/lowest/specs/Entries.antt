@@ -27,7 +27,8 @@ table_words es = flat_map entry_words es
 
 -- with the lowest above that two words hold
 abbrev pub with_lowest : Segment → ℕ → ℕ → Option Entry
-with_lowest s zero m = Some (record { segment = s; lowest_above = None })
+with_lowest s zero zero = Some (record { segment = s; lowest_above = None })
+with_lowest s zero (suc m) = None
 with_lowest s (suc zero) m = Some (record { segment = s; lowest_above = Some (cast_signed w64 m) })
 with_lowest s (suc (suc k)) m = None
 
@@ -35,8 +36,8 @@ abbrev pub segment_of : ℕ → ℕ → ℕ → ℕ → Segment
 segment_of from to v d = record { from = from; to = to; net = cast_signed w64 v; slope = cast_signed w64 d }
 
 -- earnings have 32 bits
-abbrev pub entry_of : List ℕ → Option Entry
-entry_of ws =
+abbrev pub read_entry : List ℕ → Option Entry
+read_entry ws =
     pick (nat_lt (slice_index ws 0) 4294967296 && nat_lt (slice_index ws 1) 4294967296)
     (with_lowest (segment_of (slice_index ws 0) (slice_index ws 1) (slice_index ws 2) (slice_index ws 3)) (slice_index ws 4) (slice_index ws 5)) None
 
@@ -52,4 +53,4 @@ pub record Fits (e : Entry) : Type 0 where
 
 -- its words read back as the entry
 abbrev pub ReadsBack : Type 0
-ReadsBack = (e : Entry) → Fits e → entry_of (entry_words e) ≡ Some e
+ReadsBack = (e : Entry) → Fits e → read_entry (entry_words e) ≡ Some e

@@ -7,7 +7,7 @@ use Rattle.raise.specs.Lowest.{lowest_from, Lowest, loses_at}
 use Rattle.segments.specs.declared.lines.Segment.{Segment}
 use Rattle.segments.specs.Segments.{segments, on, SegmentOf, Sized}
 use Rattle.lowest.specs.declared.entries.Entry.{Entry}
-use Rattle.lowest.specs.Entries.{width, table_words, entry_of}
+use Rattle.lowest.specs.Entries.{width, table_words, read_entry}
 
 -- a segment with the lowest net of all earnings beyond it, up to b
 abbrev pub entry : List Rule → ℕ → Segment → Entry
@@ -63,4 +63,4 @@ TableTells = (rs : List Rule) (b : ℕ) (es : List Entry) → TableOf rs b es �
 
 -- each entry of a table reads back from its place in the words
 unfoldable pub Stored : List ℕ → List Entry → Type 0
-Stored ws es = (i : ℕ) → i < length es → entry_of (take width (drop (width * i) ws)) ≡ slice_get es i
+Stored ws es = (i : ℕ) → i < length es → read_entry (take width (drop (width * i) ws)) ≡ slice_get es i

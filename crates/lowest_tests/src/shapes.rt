@@ -6,12 +6,13 @@ use wire::RuleKind;
 #[test]
 fn one_segment(rt: HostRuntime) -> Result<(), Fail> {
     let book = laid(&rt, 0, &[])?;
-    has(&rt, &book, &[entry(0, 1, 0, 10_000, None)])?;
+    has(&rt, &book, &[entry(0, 1, 0, 10_000, None)]);
     let book = laid(&rt, MOST, &[])?;
-    has(&rt, &book, &[entry(0, MOST + 1, 0, 10_000, None)])?;
+    has(&rt, &book, &[entry(0, MOST + 1, 0, 10_000, None)]);
     let above = [RuleKind::Take.rule([20, 30, 10_000])];
     let book = laid(&rt, 19, &above)?;
-    has(&rt, &book, &[entry(0, 20, 0, 10_000, None)])
+    has(&rt, &book, &[entry(0, 20, 0, 10_000, None)]);
+    Ok(())
 }
 
 // Between 10 and 20 nothing more is left, so all of these have the same.
@@ -24,7 +25,8 @@ fn level(rt: HostRuntime) -> Result<(), Fail> {
         entry(10, 20, 100_000, 0, Some(100_000)),
         entry(0, 10, 0, 10_000, Some(100_000)),
     ];
-    has(&rt, &book, &entries)
+    has(&rt, &book, &entries);
+    Ok(())
 }
 
 // Net falls to 0 at 20 and at 40, as it is at 0.
@@ -42,7 +44,8 @@ fn as_low_at_several(rt: HostRuntime) -> Result<(), Fail> {
         entry(10, 20, 100_000, -10_000, Some(0)),
         entry(0, 10, 0, 10_000, Some(0)),
     ];
-    has(&rt, &book, &entries)
+    has(&rt, &book, &entries);
+    Ok(())
 }
 
 #[test]
@@ -58,7 +61,8 @@ fn at_the_bound(rt: HostRuntime) -> Result<(), Fail> {
         entry(10, 20, 100_000, -5_000, Some(5_000)),
         entry(0, 10, 0, 10_000, Some(5_000)),
     ];
-    has(&rt, &book, &entries)
+    has(&rt, &book, &entries);
+    Ok(())
 }
 
 // A sum of 12 begins at 15.
@@ -70,10 +74,11 @@ fn just_above(rt: HostRuntime) -> Result<(), Fail> {
         entry(15, 31, 30_000, 10_000, None),
         entry(0, 15, 0, 10_000, Some(30_000)),
     ];
-    has(&rt, &book, &entries)
+    has(&rt, &book, &entries);
+    Ok(())
 }
 
-// Net is lowest at 19, the last of a segment, since 50 are given from 20 on.
+// Above 9, net is lowest at 19, the last of a segment, since 50 are given from 20 on.
 #[test]
 fn at_the_last_of_a_segment(rt: HostRuntime) -> Result<(), Fail> {
     let rules = [
@@ -86,10 +91,11 @@ fn at_the_last_of_a_segment(rt: HostRuntime) -> Result<(), Fail> {
         entry(10, 20, 100_000, -10_000, Some(500_000)),
         entry(0, 10, 0, 10_000, Some(10_000)),
     ];
-    has(&rt, &book, &entries)
+    has(&rt, &book, &entries);
+    Ok(())
 }
 
-// Net falls, rises and falls, each time less far: what is lowest beyond rises from the segment at 10 on.
+// Net falls, rises and falls, each time less far.
 #[test]
 fn falling_and_rising(rt: HostRuntime) -> Result<(), Fail> {
     let rules = [
@@ -108,7 +114,8 @@ fn falling_and_rising(rt: HostRuntime) -> Result<(), Fail> {
         entry(10, 20, 100_000, -15_000, Some(-50_000)),
         entry(0, 10, 0, 10_000, Some(-50_000)),
     ];
-    has(&rt, &book, &entries)
+    has(&rt, &book, &entries);
+    Ok(())
 }
 
 // A family: 20 % of what is above 1,000, 40 % above 3,000, 200 below 1,500, and 300 that fade by 30 % above 500.
@@ -129,5 +136,23 @@ fn a_family(rt: HostRuntime) -> Result<(), Fail> {
         entry(500, 1_000, 10_000_000, 7_000, Some(13_500_000)),
         entry(0, 500, 5_000_000, 10_000, Some(10_000_000)),
     ];
-    has(&rt, &book, &entries)
+    has(&rt, &book, &entries);
+    Ok(())
+}
+
+// One fade goes on for good, another up to more than 2^32.
+#[test]
+fn fades_that_last(rt: HostRuntime) -> Result<(), Fail> {
+    let rules = [
+        RuleKind::Fade.rule([5, 0, 9]),
+        RuleKind::Fade.rule([10, 1, 100_000_000]),
+    ];
+    let book = laid(&rt, 20, &rules)?;
+    let entries = [
+        entry(10, 21, 1_000_000_190_000, 9_999, None),
+        entry(5, 10, 1_000_000_140_000, 10_000, Some(1_000_000_190_000)),
+        entry(0, 5, 1_000_000_090_000, 10_000, Some(1_000_000_140_000)),
+    ];
+    has(&rt, &book, &entries);
+    Ok(())
 }

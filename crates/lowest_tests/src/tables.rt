@@ -1,6 +1,6 @@
 // Books of rules, and what their tables must be.
 use book::{Book, is_fine};
-use lowest::{ENTRY, Entry, read_entry, write_table};
+use lowest::{ENTRY_WORDS, Entry, read_entry, words_for, write_table};
 use segments::Segment;
 use std::process::Abort;
 use std::test::Fail;
@@ -15,7 +15,7 @@ const WORDS: usize = 800;
 const AT: usize = 10;
 
 // What all words are before.
-const BEFORE: u64 = 0xb0b0_b0b0_b0b0_b0b0;
+pub(crate) const BEFORE: u64 = 0xb0b0_b0b0_b0b0_b0b0;
 
 pub(crate) fn lay(rt: &impl Abort, book: &mut Book, rule: Rule) -> Result<(), Fail> {
     if !is_fine(rule) {
@@ -51,23 +51,21 @@ pub(crate) fn entry(from: u32, to: u32, net: i64, slope: i64, lowest_above: Opti
 }
 
 // The table of the book has just these entries, and the words around it stay.
-pub(crate) fn has(rt: &impl Abort, book: &Book, expected: &[Entry]) -> Result<(), Fail> {
+pub(crate) fn has(rt: &impl Abort, book: &Book, expected: &[Entry]) {
     let mut words = [BEFORE; WORDS];
-    if AT + ENTRY * (2 * book.rules().len() + 1) > WORDS {
-        return Err(Fail::new("too many rules"));
-    }
+    assert!(rt; AT + words_for(book) <= WORDS);
     let count = write_table(&mut words, AT, book);
     assert_eq!(rt; count, expected.len());
-    let (entries, _) = words[AT..].as_chunks::<ENTRY>();
+    let (entries, _) = words[AT..].as_chunks::<ENTRY_WORDS>();
     for (words, entry) in entries.iter().zip(expected) {
         assert_eq!(rt; read_entry(words), Some(*entry));
     }
     untouched(rt, &words[..AT]);
-    untouched(rt, &words[AT + ENTRY * count..]);
-    Ok(())
+    untouched(rt, &words[AT + ENTRY_WORDS * count..]);
 }
 
-fn untouched(rt: &impl Abort, words: &[u64]) {
+// The words are as they were before.
+pub(crate) fn untouched(rt: &impl Abort, words: &[u64]) {
     for word in words {
         assert_eq!(rt; *word, BEFORE);
     }

@@ -7,7 +7,7 @@ use Rattle.std.proofs.lemmas.Bool.{both_ways, or_cases, or_left, or_right, and_p
 use Rattle.std.proofs.lemmas.Bool.Decides.{same_from_decides}
 use Rattle.raise.specs.Rules.{Rule, loses}
 use Rattle.raise.specs.Net.{net, on_line, Straight}
-use Rattle.raise.specs.Lowest.{lesser_of, least_over, lowest_from, Lowest, NetLine, lowest_with, below, loses_at}
+use Rattle.raise.specs.Lowest.{lesser_of, least_over, lowest_from, Lowest, NetLine, lowest_with, lower_than, loses_at}
 use Rattle.raise.proofs.Search.{lost}
 use Rattle.raise.proofs.Lines.{rises, falls}
 use Rattle.raise.proofs.Straight.{net_order}
@@ -127,11 +127,11 @@ module _ (f : ℕ → ℤ) (e from to : ℕ) (v : ℤ) where
   Lost g = (h : ℕ) × (g < h) × (h < e) × (f h <ℤ f g)
 
   -- by what lies beyond
-  by_lowest : (m : Option ℤ) (g : ℕ) → Lowest f to e m → g < to → below m (f g) ≡ true → Lost g
+  by_lowest : (m : Option ℤ) (g : ℕ) → Lowest f to e m → g < to → lower_than m (f g) ≡ true → Lost g
   by_lowest None g l lt t = absurd (both_ways false refl t)
   by_lowest (Some m) g l lt t = let i = l.1 in (i.0, omega (arith, i.1), i.2, omega (arith, ints, i.3, t))
 
-  lowest_by : (m : Option ℤ) (g h : ℕ) → Lowest f to e m → to ≤ h → h < e → f h <ℤ f g → below m (f g) ≡ true
+  lowest_by : (m : Option ℤ) (g h : ℕ) → Lowest f to e m → to ≤ h → h < e → f h <ℤ f g → lower_than m (f g) ≡ true
   lowest_by None g h l lo hi t = absurd (omega arith)
   lowest_by (Some m) g h l lo hi t = let i = l.0 h lo hi in grind (arith, ints)
 
@@ -155,7 +155,7 @@ module _ (f : ℕ → ℤ) (e from to : ℕ) (v : ℤ) where
 
   tells : (d : ℤ) (m : Option ℤ) → to ≤ e → Straight f from to v d → Lowest f to e m → (g : ℕ) → from ≤ g → g < to → Decides (loses_at from to v d m g) (Lost g)
   tells d m within s l g lo lt = (
-    λ t. elim (or_cases (lt_z d (pos 0) && ltb (suc g) to) (below m (on_line from v d g)) t) [
+    λ t. elim (or_cases (lt_z d (pos 0) && ltb (suc g) to) (lower_than m (on_line from v d g)) t) [
       | inl n ↦ let p = and_parts (lt_z d (pos 0)) (ltb (suc g) to) n in by_next d g s within lo p.0 (ltb-true _ _ p.1)
       | inr u ↦ by_lowest m g l lt (rw (s g lo lt) u)
     ],
@@ -165,9 +165,9 @@ module _ (f : ℕ → ℤ) (e from to : ℕ) (v : ℤ) where
     ],
   )
 
-pub on_a_line : (rs : List Rule) (b from to : ℕ) (v d : ℤ) → NetLine rs b from to v d →
+pub loses_on_a_line : (rs : List Rule) (b from to : ℕ) (v d : ℤ) → NetLine rs b from to v d →
     (g : ℕ) → from ≤ g → g < to → loses rs b g ≡ loses_at from to v d (lowest_from rs b to) g
-on_a_line rs b from to v d l g lo lt =
+loses_on_a_line rs b from to v d l g lo lt =
     let t = tells (net rs) (suc b) from to v d (lowest_from rs b to) l.within l.straight (lowest_is rs b to) g lo lt in
     same_from_decides _ _ (lost rs b g) (
       λ p. let i = t.0 p in (i.0, i.1, omega (arith, i.2), net_order rs g i.0 ∙ grind (arith, ints, i.3)),

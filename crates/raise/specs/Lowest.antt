@@ -40,10 +40,10 @@ lowest_with from to v d m = lesser_of (int_min v (on_line from v d (to - 1))) m
 -- ---- who loses
 
 -- is there an m, and is it less than x
-abbrev pub below : Option ℤ → ℤ → Bool
-below None x = false
-below (Some m) x = int_lt m x
+abbrev pub lower_than : Option ℤ → ℤ → Bool
+lower_than None x = false
+lower_than (Some m) x = int_lt m x
 
 -- does g on such a line lose: by the next unit, if the line falls and g is not its last, or by what lies beyond
 abbrev pub loses_at : ℕ → ℕ → ℤ → ℤ → Option ℤ → ℕ → Bool
-loses_at from to v d m g = (int_lt d (pos 0) && nat_lt (suc g) to) || below m (on_line from v d g)
+loses_at from to v d m g = (int_lt d (pos 0) && nat_lt (suc g) to) || lower_than m (on_line from v d g)

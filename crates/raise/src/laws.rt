@@ -81,14 +81,15 @@ pub fn straight()
     ensures borders { (rs : List Rule) → SameOrPast (breakpoints rs) (borders rs) }
 {}
 
-// The lowest net from an earning on, up to the bound, is that of one of these earnings, and of none of them is less left. Down a
-// line it is the lesser of the line's two ends and of the lowest beyond.
+// The lowest net from an earning on, up to the bound, is that of one of these earnings, and of none of them is less left; there
+// is none just where no earning is. From the beginning of a line on it is the lesser of the line's two ends and of the lowest
+// beyond.
 pub fn lowest()
     ensures least { (rs : List Rule) (b x : ℕ) → Lowest (net rs) x (suc b) (lowest_from rs b x) }
     ensures down { (rs : List Rule) (b from to : ℕ) (v d : ℤ) → NetLine rs b from to v d → lowest_from rs b from ≡ Some (lowest_with from to v d (lowest_from rs b to)) }
 {}
 
 // Who loses on a line is told by it and by the lowest beyond.
-pub fn on_a_line()
+pub fn loses_on_a_line()
     ensures { (rs : List Rule) (b from to : ℕ) (v d : ℤ) → NetLine rs b from to v d → (g : ℕ) → from ≤ g → g < to → loses rs b g ≡ loses_at from to v d (lowest_from rs b to) g }
 {}

@@ -35,10 +35,10 @@ abbrev pub SpanEnds : Type 0
 SpanEnds = (r : Rule) (rs : List Rule) → breakpoints (r ∷ rs) ≡ (span r).from ∷ before (span r).to (breakpoints rs)
 
 -- is g before an end, if there is one
-abbrev pub not_past : Option ℕ → ℕ → Bool
-not_past None g = true
-not_past (Some y) g = nat_lt g y
+abbrev pub before_end : Option ℕ → ℕ → Bool
+before_end None g = true
+before_end (Some y) g = nat_lt g y
 
 -- and it holds from the first of them on, before the second
 abbrev pub SpanHolds : Type 0
-SpanHolds = (r : Rule) (g : ℕ) → holds r g ≡ (nat_le (span r).from g && not_past (span r).to g)
+SpanHolds = (r : Rule) (g : ℕ) → holds r g ≡ (nat_le (span r).from g && before_end (span r).to g)

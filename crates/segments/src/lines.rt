@@ -17,7 +17,7 @@ pub struct Segment {
 }
 
 impl Segment {
-    // What is left of a gross on the segment.
+    // Net at a gross on the segment, by its line.
     pub fn net_at(self, gross: u32) -> i64
         requires sized { Sized self }
         requires low { self.from ≤ gross }
