@@ -21,7 +21,7 @@ pub record Last (points : List ℕ) (m x y : ℕ) : Type 0 where
   pub between : clear points y x ≡ true
   pub reached : (among points y ≡ true) ⊎ (y ≡ m)
 
--- one point more: it is later, or it is not between
+-- one point more: it is nearer, or it is not between
 module _ (y : ℕ) (ys : List ℕ) (m x r : ℕ) where
   here : m < y → Last ys y x r → Last (y ∷ ys) m x r
   unfolding clear among
