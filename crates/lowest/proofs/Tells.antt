@@ -14,12 +14,11 @@ use Rattle.book.specs.Held.{Within}
 use Rattle.segments.specs.declared.lines.Segment.{Segment}
 use Rattle.segments.specs.Segments.{SegmentOf, Sized, segments, how_many_on}
 use Rattle.segments.proofs.Paces.{net_small}
-use Rattle.segments.proofs.Cover.{each, each_sized, segments_cover}
+use Rattle.segments.proofs.Cover.{segment_line, each, each_sized, segments_cover}
 use Rattle.lowest.specs.declared.entries.Entry.{Entry}
 use Rattle.lowest.specs.Entries.{Fits}
 use Rattle.lowest.specs.Table.{entry, table, EntryOf, TableOf, IsTable, SizedEntry, loses_by, TableTells}
 use Rattle.lowest.proofs.Lists.{all_back, all_map, all_both}
-use Rattle.lowest.proofs.Walk.{segment_line}
 
 -- ---- the lowest beyond
 

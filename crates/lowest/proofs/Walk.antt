@@ -4,25 +4,21 @@ use Rattle.std.proofs.lemmas.Grind.{reverse_onto}
 use Rattle.std.proofs.lemmas.List.{length-reverse, length-map, length_push, map-append}
 use Rattle.std.proofs.lemmas.Bool.{lt-leb}
 use Rattle.raise.specs.Rules.{Rule}
-use Rattle.raise.specs.Lowest.{least_over, lowest_from, NetLine, lowest_with}
+use Rattle.raise.specs.Lowest.{least_over, lowest_from, lowest_with}
 use Rattle.raise.proofs.Lows.{lowest_down}
 use Rattle.raise.specs.Net.{breakpoints}
 use Rattle.wire.specs.declared.calls.Rule as declared
 use Rattle.book.specs.Meant.{all_meant}
 use Rattle.segments.specs.declared.lines.Segment.{Segment}
 use Rattle.segments.specs.Points.{next_breakpoint}
-use Rattle.segments.specs.Segments.{segment_at, SegmentOf, segments_from}
-use Rattle.segments.proofs.Cover.{one_more, at_most, segment_right}
+use Rattle.segments.specs.Segments.{segment_at, segments_from}
+use Rattle.segments.proofs.Cover.{segment_line, one_more, at_most, segment_right}
 use Rattle.lowest.specs.declared.entries.Entry.{Entry}
 use Rattle.lowest.specs.Below.{greatest_below, breakpoint_below}
 use Rattle.lowest.specs.Entries.{width, entry_words, table_words}
 use Rattle.lowest.specs.Table.{entry, table, most_entries}
 use Rattle.lowest.proofs.Points.{Stands, Below, is_below, by_no_rule}
 use Rattle.lowest.proofs.Words.{one_written}
-
--- a segment's line
-pub segment_line : (rs : List Rule) (b : ℕ) (s : Segment) → SegmentOf rs b s → NetLine rs b s.from s.to s.net s.slope
-segment_line rs b s i = record { some = i.ends.above; within = i.ends.within; straight = i.straight }
 
 module _ (rs : List Rule) (b : ℕ) where
   -- the entries of all segments from x on, the last first

@@ -4,6 +4,7 @@ use Rattle.std.specs.List.{AllByRecursion}
 use Rattle.std.proofs.lemmas.Bool.{cases_Bool, or_cases, eqb-true, leb-true, leb-false, le-leb, cases_lt}
 use Rattle.raise.specs.Rules.{pick, Rule, takes, gives, takes_sum, gives_sum, fades}
 use Rattle.raise.specs.Net.{breakpoints, among}
+use Rattle.raise.specs.Lowest.{NetLine}
 use Rattle.raise.proofs.Straight.{net_straight}
 use Rattle.book.specs.Held.{Within}
 use Rattle.segments.specs.declared.lines.Segment.{Segment}
@@ -46,6 +47,10 @@ at_most_two (takes_sum a b s ∷ rs) = two_more a b (length rs) (breakpoints rs)
 at_most_two (gives_sum a b s ∷ rs) = two_more a b (length rs) (breakpoints rs) (at_most_two rs)
 at_most_two (fades a zero s ∷ rs) = let i = at_most_two rs in grind arith
 at_most_two (fades a (suc r) s ∷ rs) = two_more a _ (length rs) (breakpoints rs) (at_most_two rs)
+
+-- a segment's line
+pub segment_line : (rs : List Rule) (b : ℕ) (s : Segment) → SegmentOf rs b s → NetLine rs b s.from s.to s.net s.slope
+segment_line rs b s i = record { some = i.ends.above; within = i.ends.within; straight = i.straight }
 
 -- ---- the segments from x on
 
