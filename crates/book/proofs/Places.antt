@@ -1,8 +1,8 @@
 -- Rules in slots: what was written reads back, one slot more, and what is left when one is lifted.
 use Rattle.std.proofs.Common.{◌≡◌, ℕ, zero, suc, ◌+◌, ◌*◌, ◌<◌, ◌≤◌, Bool, true, ◌&&◌, leb, List, [], ◌∷◌, ◌++◌, map, length, get_or, take, drop, Some, None, Option, sym, refl, ap, ◌∙◌, inl, inr, append_assoc, arith}
 use Rattle.std.specs.Simd.{first_chunks}
-use Rattle.std.specs.List.{flat_map}
-use Rattle.std.proofs.lemmas.List.{take_all, take_more, take-map, drop_at, drop-drop, drop-map, length-append, length_push, flat_map_more, map-append, map_more, get_or-take}
+use Rattle.std.specs.List.{AllByRecursion, flat_map, slice_get}
+use Rattle.std.proofs.lemmas.List.{take_all, take_at, take_more, take-map, drop_at, drop-drop, drop-map, length-append, length_push, flat_map_more, map-append, map_more, get_or-take}
 use Rattle.std.proofs.lemmas.Bool.{and_parts, and_from, cases_Bool}
 use Rattle.raise.specs.Rules.{pick, Rule, takes, gives, takes_sum, gives_sum, fades}
 use Rattle.raise.specs.Calls.{rule_number, fine}
@@ -28,6 +28,29 @@ drop_slots f w h (x ∷ xs) ys (suc k) d l =
     ap (λ (n : ℕ). drop n ((f x ++ flat_map f xs) ++ ys)) z ∙ sym (drop-drop (w * k) w ((f x ++ flat_map f xs) ++ ys)) ∙
     ap (λ (t : List ℕ). drop (w * k) (drop w t)) (append_assoc (f x) (flat_map f xs) ys) ∙
     ap (drop (w * k)) (drop_at (f x) (flat_map f xs ++ ys) w (h x)) ∙ drop_slots f w h xs ys k d (omega arith)
+
+-- if the words of each read back, each reads back from its place
+pub slots_read : {X : Type 0} (f : X → List ℕ) (w : ℕ) → ((x : X) → length (f x) ≡ w) → (read : List ℕ → Option X) (xs : List X) (ys : List ℕ) →
+    AllByRecursion (λ x. read (f x) ≡ Some x) xs → (i : ℕ) → i < length xs → read (take w (drop (w * i) (flat_map f xs ++ ys))) ≡ slice_get xs i
+slots_read f w h read [] ys a i l = absurd (omega arith)
+slots_read f w h read (x ∷ xs) ys a zero l =
+    ap (λ (t : List ℕ). read (take w t)) (drop_slots f w h (x ∷ xs) ys 0 x l) ∙ ap read (take_at (f x) (flat_map f xs ++ ys) w (h x)) ∙ a.0
+slots_read f w h read (x ∷ xs) ys a (suc i) l =
+    let z : w * suc i ≡ w + w * i = omega arith in
+    ap (λ (n : ℕ). read (take w (drop n ((f x ++ flat_map f xs) ++ ys)))) z ∙ ap (λ (t : List ℕ). read (take w t)) (sym (drop-drop (w * i) w ((f x ++ flat_map f xs) ++ ys))) ∙
+    ap (λ (t : List ℕ). read (take w (drop (w * i) (drop w t)))) (append_assoc (f x) (flat_map f xs) ys) ∙
+    ap (λ (t : List ℕ). read (take w (drop (w * i) t))) (drop_at (f x) (flat_map f xs ++ ys) w (h x)) ∙ slots_read f w h read xs ys a.1 i (omega arith)
+
+-- one more behind those that were written, in words of which ws were there before
+pub one_written : {X : Type 0} (f : X → List ℕ) (w : ℕ) → ((x : X) → length (f x) ≡ w) → (xs : List X) (x : X) (ws us : List ℕ) → us ≡ flat_map f xs ++ drop (w * length xs) ws →
+    take (w * length xs) us ++ (f x ++ drop (w * length xs + w) us) ≡ flat_map f (xs ++ (x ∷ [])) ++ drop (w * (length xs + 1)) ws
+one_written f w h xs x ws us e =
+    let k = w * length xs in
+    let t : take k us ≡ flat_map f xs = ap (take k) e ∙ take_at (flat_map f xs) (drop k ws) k (joined_long f w h xs) in
+    let d : drop k us ≡ drop k ws = ap (drop k) e ∙ drop_at (flat_map f xs) (drop k ws) k (joined_long f w h xs) in
+    let q : drop (k + w) us ≡ drop (w * (length xs + 1)) ws = sym (drop-drop w k us) ∙ ap (drop w) d ∙ drop-drop w k ws ∙ ap (λ (n : ℕ). drop n ws) (omega arith) in
+    ap (λ (y : List ℕ). y ++ (f x ++ drop (k + w) us)) t ∙ ap (λ (y : List ℕ). flat_map f xs ++ (f x ++ y)) q ∙
+    sym (append_assoc (flat_map f xs) (f x) (drop (w * (length xs + 1)) ws)) ∙ ap (λ (y : List ℕ). y ++ drop (w * (length xs + 1)) ws) (flat_map_more f [] xs x)
 
 slot_long : (r : Rule) → length (slot r) ≡ width
 slot_long (takes a b r) = refl

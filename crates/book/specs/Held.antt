@@ -46,6 +46,13 @@ width = 4
 abbrev pub slot : Rule → List ℕ
 slot r = rule_number r ∷ numbers r
 
+-- where the scratch begins behind the slots of a limit of n rules, and how many words it has
+abbrev pub scratch_from : ℕ → ℕ
+scratch_from n = 4 + width * n
+
+abbrev pub scratch_words : ℕ → ℕ
+scratch_words n = 28 * n + 60
+
 -- front and slots, and zeros up to the last word asked for
 unfoldable pub image : Book → List ℕ
 image b = (head_words b.limit b.bound (length b.rules) ++ flat_map slot b.rules) ++ replicate (asked b.limit - (4 + width * length b.rules)) 0

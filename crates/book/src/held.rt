@@ -4,13 +4,14 @@ ghost use Rattle.std.specs.List.{slice_get};
 ghost use Rattle.raise.specs.Rules.{pick};
 ghost use Rattle.raise.specs.Calls.{lays, lifts, changed, fine as fine_rule};
 ghost use Rattle.wire.specs.Meaning.{meant};
-ghost use Rattle.book.specs.Held.{asked, width, with_rules, image, rules_of, book_of, head_fine, has_room, has_rule, Within, ReadsBack, HoldsGood, ImagesDiffer};
+ghost use Rattle.book.specs.Held.{asked, width, scratch_from, scratch_words, with_rules, image, rules_of, book_of, head_fine, has_room, has_rule, Within, ReadsBack, HoldsGood, ImagesDiffer};
 ghost use Rattle.book.specs.Meant.{all_meant, meant_if, meant_list};
 ghost use Rattle.book.specs.Value.{ReadIf};
 
 use crate::slots::{SLOT, read_slot, slot_of};
 use arrayvec::ArrayVec;
 use std::marker::Model;
+use std::ops::Range;
 use wire::Rule;
 
 // Says that an opened book of this format is here: "book" in ASCII.
@@ -179,6 +180,16 @@ impl Book {
         ensures low { result ≤ 1000000000 }
     {
         self.bound
+    }
+
+    // Where in its words the scratch lies: behind the slots, up to the last word that is asked for. What is written there is
+    // cleared as soon as the book is written again.
+    pub fn scratch(&self) -> Range<usize>
+        ensures from { result.start ≡ scratch_from self.now.limit }
+        ensures to { result.end ≡ asked self.now.limit }
+        ensures room { result.start + scratch_words self.now.limit ≡ result.end }
+    {
+        FRONT + SLOT * self.limit as usize..words_asked(self.limit)
     }
 
     // The rules, in the order in which they were laid.

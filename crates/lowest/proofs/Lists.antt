@@ -1,4 +1,4 @@
--- What holds of each element of a list, of the list turned round, of another made from it, and of the one at a place.
+-- What holds of each element of a list, of the list turned round, and of another made from it.
 use Rattle.std.proofs.Common.{ℕ, zero, suc, ◌<◌, List, [], ◌∷◌, ◌++◌, map, reverse, length, get_or, arith}
 use Rattle.std.specs.List.{AllByRecursion}
 use Rattle.std.proofs.lemmas.Grind.{reverse_onto}
@@ -18,8 +18,3 @@ all_map P Q f h (x ∷ xs) a = (h x a.0, all_map P Q f h xs a.1)
 pub all_both : {X : Type 0} (P Q R : X → Type 0) → ((x : X) → P x → Q x → R x) → (xs : List X) → AllByRecursion P xs → AllByRecursion Q xs → AllByRecursion R xs
 all_both P Q R h [] a b = tt
 all_both P Q R h (x ∷ xs) a b = (h x a.0 b.0, all_both P Q R h xs a.1 b.1)
-
-pub all_at : {X : Type 0} (P : X → Type 0) (xs : List X) (i : ℕ) (d : X) → i < length xs → AllByRecursion P xs → P (get_or xs i d)
-all_at P [] i d l a = absurd (omega arith)
-all_at P (x ∷ xs) zero d l a = a.0
-all_at P (x ∷ xs) (suc i) d l a = all_at P xs i d (omega arith) a.1

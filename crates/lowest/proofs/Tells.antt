@@ -8,7 +8,7 @@ use Rattle.std.proofs.lemmas.List.{map-id}
 use Rattle.std.proofs.lemmas.Bool.{cases_Bool, and_parts, leb-true, ltb-true}
 use Rattle.raise.specs.Rules.{Rule, loses}
 use Rattle.raise.specs.Net.{net, on_line}
-use Rattle.raise.specs.Lowest.{least_over, lowest_from, Lowest}
+use Rattle.raise.specs.Lowest.{least_over, lowest_from, Lowest, loses_at}
 use Rattle.raise.proofs.Lows.{lowest_is, only, loses_on_a_line}
 use Rattle.book.specs.Held.{Within}
 use Rattle.segments.specs.declared.lines.Segment.{Segment}
@@ -38,7 +38,7 @@ module _ (rs : List Rule) (b : ℕ) where
         );
       }
 
-table_is : (rs : List Rule) (b : ℕ) → TableOf rs b (table rs b)
+pub table_is : (rs : List Rule) (b : ℕ) → TableOf rs b (table rs b)
 unfolding table
 table_is rs b =
     record {
@@ -71,17 +71,21 @@ unfolding how_many_on
 many_back [] g = refl
 many_back (s ∷ ss) g = let i = many_back ss g in let j = many_joined (reverse ss) (s ∷ []) g in rw (reverse_onto ss s []) (omega (arith, i, j))
 
+-- on the segment of an entry
+pub by_entry : (rs : List Rule) (b : ℕ) (e : Entry) → EntryOf rs b e → (g : ℕ) → e.segment.from ≤ g → g < e.segment.to →
+    loses rs b g ≡ loses_at e.segment.from e.segment.to e.segment.net e.segment.slope e.lowest_above g
+by_entry rs b e i g lo hi =
+    let s = e.segment in
+    let l = loses_on_a_line rs b s.from s.to s.net s.slope (segment_line rs b s i.segment) g lo hi in
+    rw (told rs b e i) l
+
 by_entries : (rs : List Rule) (b : ℕ) (es : List Entry) (g : ℕ) → AllByRecursion (EntryOf rs b) es → 0 < how_many_on (map (λ (e : Entry). e.segment) es) g → loses_by es g ≡ loses rs b g
 unfolding loses_by how_many_on
 by_entries rs b [] g a some = absurd (omega arith)
 by_entries rs b (e ∷ es) g a some =
     let s = e.segment in
-    let i = a.0 in
     elim (cases_Bool (leb s.from g && ltb g s.to)) [
-      | inl t ↦
-          let p = and_parts (leb s.from g) (ltb g s.to) t in
-          let l = loses_on_a_line rs b s.from s.to s.net s.slope (segment_line rs b s i.segment) g (leb-true _ _ p.0) (ltb-true _ _ p.1) in
-          rw (t, told rs b e i) (sym l)
+      | inl t ↦ let p = and_parts (leb s.from g) (ltb g s.to) t in rw t (sym (by_entry rs b e a.0 g (leb-true _ _ p.0) (ltb-true _ _ p.1)))
       | inr u ↦ rw u (by_entries rs b es g a.1 (omega (arith, rw u at some)))
     ]
 

@@ -1,17 +1,15 @@
 -- Entries in words: how many these are, one entry more behind others, and what reads back.
-use Rattle.std.proofs.Common.{◌≡◌, ℕ, suc, ◌≤◌, ◌-◌, ◌+◌, ◌*◌, true, ltb, List, [], ◌∷◌, ◌++◌, length, get_or, take, drop, ℤ, pos, Some, None, Option, sym, refl, ap, ◌∙◌, append_assoc, w64, arith}
+use Rattle.std.proofs.Common.{◌≡◌, ℕ, ◌≤◌, ◌-◌, ◌+◌, ◌*◌, true, ltb, List, [], ◌∷◌, ◌++◌, length, take, drop, ℤ, Some, None, Option, refl, ap, ◌∙◌, append_assoc, w64, arith}
 use borrow.Rule.Slice.PartMut.{put_mid}
-use Rattle.std.specs.List.{AllByRecursion, flat_map}
+use Rattle.std.specs.List.{AllByRecursion}
 use Rattle.std.proofs.lemmas.Int.{to_z-of_z}
-use Rattle.std.proofs.lemmas.Option.{slice_get-get_or}
-use Rattle.std.proofs.lemmas.List.{flat_map_more, take_at, drop_at, drop-drop, length-take-le}
+use Rattle.std.proofs.lemmas.List.{drop_at, length-take-le}
 use Rattle.std.proofs.lemmas.Bool.{lt-ltb}
-use Rattle.book.proofs.Places.{joined_long, drop_slots}
+use Rattle.book.proofs.Places.{joined_long, slots_read, one_written}
 use Rattle.segments.specs.declared.lines.Segment.{Segment}
 use Rattle.lowest.specs.declared.entries.Entry.{Entry}
 use Rattle.lowest.specs.Entries.{width, lowest_words, entry_words, table_words, read_entry, Fits, ReadsBack}
 use Rattle.lowest.specs.Table.{Stored}
-use Rattle.lowest.proofs.Lists.{all_at}
 
 lowest_long : (m : Option ℤ) → length (lowest_words m) ≡ 2
 lowest_long None = refl
@@ -24,17 +22,9 @@ pub table_long : (es : List Entry) → length (table_words es) ≡ width * lengt
 table_long es = joined_long entry_words width entry_long es
 
 -- one entry more behind those that were written
-pub one_written : (es : List Entry) (e : Entry) (ws us : List ℕ) → us ≡ table_words es ++ drop (width * length es) ws →
+pub one_entry : (es : List Entry) (e : Entry) (ws us : List ℕ) → us ≡ table_words es ++ drop (width * length es) ws →
     take (width * length es) us ++ (entry_words e ++ drop (width * length es + width) us) ≡ table_words (es ++ (e ∷ [])) ++ drop (width * (length es + 1)) ws
-one_written es e ws us h =
-    let k = width * length es in
-    let t : take k us ≡ table_words es = ap (take k) h ∙ take_at (table_words es) (drop k ws) k (table_long es) in
-    let d : drop k us ≡ drop k ws = ap (drop k) h ∙ drop_at (table_words es) (drop k ws) k (table_long es) in
-    let q : drop (k + width) us ≡ drop (width * (length es + 1)) ws =
-    sym (drop-drop width k us) ∙ ap (drop width) d ∙ drop-drop width k ws ∙ ap (λ (n : ℕ). drop n ws) (omega arith) in
-    let z : table_words es ++ entry_words e ≡ table_words (es ++ (e ∷ [])) = flat_map_more entry_words [] es e in
-    ap (λ (x : List ℕ). x ++ (entry_words e ++ drop (k + width) us)) t ∙ ap (λ (x : List ℕ). table_words es ++ (entry_words e ++ x)) q ∙
-    sym (append_assoc (table_words es) (entry_words e) (drop (width * (length es + 1)) ws)) ∙ ap (λ (x : List ℕ). x ++ drop (width * (length es + 1)) ws) z
+one_entry es e ws us h = one_written entry_words width entry_long es e ws us h
 
 -- ---- back from words
 
@@ -51,16 +41,13 @@ back s (Some m) f =
 pub reads_back : ReadsBack
 reads_back e f = back e.segment e.lowest_above f
 
-nothing : Entry
-nothing = record { segment = record { from = 0; to = 0; net = pos 0; slope = pos 0 }; lowest_above = None }
+each_back : (es : List Entry) → AllByRecursion Fits es → AllByRecursion (λ e. read_entry (entry_words e) ≡ Some e) es
+each_back [] a = tt
+each_back (e ∷ es) a = (reads_back e a.0, each_back es a.1)
 
 stored : (es : List Entry) (ys : List ℕ) → AllByRecursion Fits es → Stored (table_words es ++ ys) es
 unfolding Stored
-stored es ys a i l =
-    let e = get_or es i nothing in
-    let d = drop_slots entry_words width entry_long es ys i nothing l in
-    ap (λ (ws : List ℕ). read_entry (take width ws)) d ∙ ap read_entry (take_at (entry_words e) (flat_map entry_words (drop (suc i) es) ++ ys) width (entry_long e)) ∙
-    reads_back e (all_at Fits es i nothing l a) ∙ sym (slice_get-get_or es i nothing l)
+stored es ys a i l = slots_read entry_words width entry_long read_entry es ys (each_back es a) i l
 
 -- in the part of ws from its k-th word on that us was written to
 pub stored_at : (k : ℕ) (ws us vs : List ℕ) (es : List Entry) → k ≤ length ws → us ≡ table_words es ++ vs → AllByRecursion Fits es → Stored (drop k (put_mid k (length ws - k) ws us)) es

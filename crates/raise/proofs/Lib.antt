@@ -9,5 +9,6 @@ pub mod Lines
 pub mod Straight
 pub mod Look
 pub mod Lows
+pub mod Ranges
 pub mod Trial
 pub mod Picks

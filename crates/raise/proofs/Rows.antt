@@ -7,7 +7,7 @@ use Rattle.raise.specs.Laws.{RowTold}
 use Rattle.raise.proofs.Search.{first_found, none_that}
 
 -- whoever earns the bound can't earn more
-at_bound : (rs : List Rule) (b : ℕ) → loses rs b b ≡ false
+pub at_bound : (rs : List Rule) (b : ℕ) → loses rs b b ≡ false
 unfolding some_less
 at_bound rs b = let z : b - b ≡ 0 = omega arith in rw z
 

@@ -2,10 +2,13 @@
 // and without the law's proof the crate is refused.
 ghost use Rattle.std.specs.Prelude.{◌≡◌, ℕ, suc, ◌<◌, ◌≤◌, true, List, [], ◌∷◌, ◌++◌, ℤ, Some, Decides, int_lt};
 ghost use Rattle.raise.specs.Rules.{Rule, less_left, loses, safe_from};
-ghost use Rattle.raise.specs.Calls.{Limits, lays, next_row, fine, changed, told};
+ghost use Rattle.raise.specs.Calls.{Answer, Limits, lays, next_row, fine, changed, told};
 ghost use Rattle.raise.specs.Promise.{borders, Shown, NeverLess, WhereToLook, AnyOrder, RatesAlone, SafeFrom};
 ghost use Rattle.raise.specs.Net.{net, share, Straight, breaks, breakpoints, clear, SameOrPast, slope_by, slope};
 ghost use Rattle.raise.specs.Lowest.{lowest_from, Lowest, NetLine, lowest_with, loses_at};
+ghost use Rattle.raise.specs.declared.LosingRange.{LosingRange};
+ghost use Rattle.raise.specs.Told.{row_told};
+ghost use Rattle.raise.specs.Ranges.{LosingRanges, losing_ranges, range_from};
 ghost use Rattle.raise.specs.Laws.{LessAbove, Nobody, Rises, SeenAt, SeenNear, JustWithin, SafeTold, RowTold, AskedAlike, SameUpTo, Idle, idle};
 
 // Whoever loses can be shown a larger earning of which less is left; for whoever doesn't there is none.
@@ -49,9 +52,18 @@ pub fn safe_from()
 {}
 
 // The answered row is the first from the asked earning on, from its first to its last; where none is answered, nobody from
-// there on loses.
+// there on loses. No other answer says that.
 pub fn rows()
-    ensures { (l : Limits) (rs : List Rule) (g : ℕ) → RowTold rs l.bound g (told l rs (next_row g)) }
+    ensures told { (l : Limits) (rs : List Rule) (g : ℕ) → RowTold rs l.bound g (told l rs (next_row g)) }
+    ensures only { (rs : List Rule) (b g : ℕ) (a c : Answer) → RowTold rs b g a → RowTold rs b g c → a ≡ c }
+{}
+
+// The ranges that are found by trying every earning are all those of who loses, each as long as can be, and no other list is. The
+// answered row is the first of them from the asked earning on.
+pub fn losing_ranges()
+    ensures exact { (rs : List Rule) (b : ℕ) → LosingRanges rs b (losing_ranges rs b) }
+    ensures only { (rs : List Rule) (b : ℕ) (ranges : List LosingRange) → LosingRanges rs b ranges → ranges ≡ losing_ranges rs b }
+    ensures row { (l : Limits) (rs : List Rule) (g : ℕ) → row_told (range_from (losing_ranges rs l.bound) g) ≡ told l rs (next_row g) }
 {}
 
 // Books by which the same comes in and goes out at every earning up to the bound answer left, row and safe alike.

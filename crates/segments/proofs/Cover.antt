@@ -61,7 +61,7 @@ module _ (rs : List Rule) (b : ℕ) where
   pub segment_sized : (g : ℕ) → g ≤ b → next_breakpoint rs b g ≤ 1000000001 → Within rs → Sized (segment_at rs b g)
   segment_sized g le low w =
       let s = segment_right g le in
-      record { net = λ h a z. rw (← s.straight h a z) (net_small rs h w (omega (arith, low))); slope = slope_small rs g w }
+      record { to = low; net = λ h a z. rw (← s.straight h a z) (net_small rs h w (omega (arith, low))); slope = slope_small rs g w }
 
   chain : (n x : ℕ) → x ≤ suc b → (x ≤ b → above (breakpoints rs) x < n) → Chain (segments_from rs b n x) x (suc b)
   unfolding segments_from Chain

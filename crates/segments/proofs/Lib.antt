@@ -3,3 +3,4 @@ pub mod Marks
 pub mod Paces
 pub mod Along
 pub mod Cover
+pub mod Above

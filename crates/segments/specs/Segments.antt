@@ -1,5 +1,5 @@
 -- Segments of a book: one by one, and all of them. Definitions only: nothing is assumed.
-use Rattle.std.specs.Prelude.{◌≡◌, ℕ, zero, suc, ◌+◌, ◌*◌, ◌<◌, ◌≤◌, Bool, ◌&&◌, List, [], ◌∷◌, length, nat_le, nat_lt, unsigned_abs}
+use Rattle.std.specs.Prelude.{◌≡◌, ℕ, zero, suc, ◌+◌, ◌*◌, ◌<◌, ◌≤◌, Bool, false, ◌&&◌, List, [], ◌∷◌, length, ℤ, Some, None, Option, nat_le, nat_lt, int_lt, unsigned_abs}
 use Rattle.std.specs.List.{AllByRecursion}
 use Rattle.raise.specs.Rules.{pick, Rule}
 use Rattle.raise.specs.Net.{net, on_line, Straight, breakpoints, slope}
@@ -16,10 +16,17 @@ pub record SegmentOf (rs : List Rule) (b : ℕ) (s : Segment) : Type 0 where
   pub ends : Next (breakpoints rs) s.from (suc b) s.to
   pub straight : Straight (net rs) s.from s.to s.net s.slope
 
--- sizes that leave room to compute with them: what is left of every earning on the segment, and its slope
+-- sizes that leave room to compute with them: where the segment ends, what is left of every earning on it, and its slope
 pub record Sized (s : Segment) : Type 0 where
+  pub to : s.to ≤ 1000000001
   pub net : (g : ℕ) → s.from ≤ g → g < s.to → unsigned_abs (on_line s.from s.net s.slope g) ≤ 1290000000000000
   pub slope : unsigned_abs s.slope ≤ 1290000
+
+-- the first earning of which more is left than m, on a segment that doesn't fall: of it and all after it more is, of none before
+-- it; and where there is no such earning on the segment, none
+abbrev pub FirstAbove : Segment → ℤ → Option ℕ → Type 0
+FirstAbove s m None = (g : ℕ) → s.from ≤ g → g < s.to → int_lt m (on_line s.from s.net s.slope g) ≡ false
+FirstAbove s m (Some x) = (s.from ≤ x) × (x < s.to) × ((g : ℕ) → s.from ≤ g → g < s.to → int_lt m (on_line s.from s.net s.slope g) ≡ nat_le x g)
 
 -- ---- all segments
 

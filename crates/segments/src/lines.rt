@@ -1,7 +1,7 @@
 // A segment: the grosses from one on, up to before the next breakpoint, with the line that net is on it.
-ghost use Rattle.std.specs.Prelude.{◌≡◌, ◌<◌, ◌≤◌};
+ghost use Rattle.std.specs.Prelude.{◌≡◌, ◌<◌, ◌≤◌, pos, ◌≤ℤ◌};
 ghost use Rattle.raise.specs.Net.{on_line};
-ghost use Rattle.segments.specs.Segments.{segment_at, SegmentOf, Sized, SegmentsCover};
+ghost use Rattle.segments.specs.Segments.{segment_at, SegmentOf, Sized, SegmentsCover, FirstAbove};
 
 use crate::breakpoints::next_breakpoint;
 use crate::slopes::{holding_at, slope_by};
@@ -25,6 +25,28 @@ impl Segment {
         ensures { result ≡ on_line self.from self.net self.slope gross }
     {
         self.net + self.slope * i64::from(gross - self.from)
+    }
+
+    // The first gross on a segment that doesn't fall of which more is left than so much, if there is one; of all after it, too.
+    pub fn first_above(self, level: i64) -> Option<u32>
+        requires some { self.from < self.to }
+        requires rises { pos 0 ≤ℤ self.slope }
+        ensures { FirstAbove self level result }
+    {
+        if level < self.net {
+            return Some(self.from);
+        }
+        // Natural numbers, so that nothing is asked of sizes.
+        let steps = level
+            .abs_diff(self.net)
+            .checked_div(self.slope.unsigned_abs())?;
+        let first = u64::from(self.from).saturating_add(steps).saturating_add(1);
+        if first < u64::from(self.to) {
+            // No `From` narrows; it is below `to`.
+            Some(first as u32)
+        } else {
+            None
+        }
     }
 }
 

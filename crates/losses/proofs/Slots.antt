@@ -1,0 +1,59 @@
+-- Ranges in words: one more behind others, and what reads back.
+use Rattle.std.proofs.Common.{◌≡◌, ℕ, suc, ◌+◌, ◌*◌, ◌<◌, ◌≤◌, true, ltb, List, [], ◌∷◌, ◌++◌, length, drop, Some, None, Option, sym, refl, ◌∙◌, arith}
+use Rattle.std.specs.List.{AllByRecursion, flat_map}
+use Rattle.std.proofs.lemmas.Bool.{or_left, or_right, and_parts, ltb-true, lt-ltb}
+use Rattle.std.proofs.lemmas.List.{length_push}
+use Rattle.raise.specs.declared.LosingRange.{LosingRange}
+use Rattle.raise.specs.Rules.{Rule, loses}
+use Rattle.raise.specs.Ranges.{lies_in, lies_in_one, Apart, losing_ranges}
+use Rattle.raise.proofs.Ranges.{losing_found}
+use Rattle.book.proofs.Places.{one_written, slots_read}
+use Rattle.losses.specs.Words.{width, range_words, with_row, how_many, read_range, Fits, Stored}
+
+range_long : (r : LosingRange) → length (range_words r) ≡ width
+range_long r = refl
+
+-- those written, and the last
+abbrev pub with_last : List LosingRange → Option LosingRange → List LosingRange
+with_last rows None = rows
+with_last rows (Some r) = rows ++ (r ∷ [])
+
+-- in words of which ws were there before
+pub row_put : (ws us : List ℕ) (rows : List LosingRange) (count : ℕ) (last : Option LosingRange) → count ≡ length rows → us ≡ flat_map range_words rows ++ drop (width * count) ws →
+    (how_many last + count ≡ length (with_last rows last)) × (with_row us count last ≡ flat_map range_words (with_last rows last) ++ drop (width * (how_many last + count)) ws)
+row_put ws us rows count None c w = let z : 0 + count ≡ count = omega arith in (omega (arith, c), rw z w)
+row_put ws us rows count (Some r) c w =
+    let z : 1 + count ≡ length rows + 1 = omega (arith, c) in
+    let o = one_written range_words width range_long rows r ws us (rw c at w) in
+    (z ∙ sym (length_push rows r), rw (z, c) o)
+
+-- ---- what reads back
+
+back : (r : LosingRange) → Fits r → read_range (range_words r) ≡ Some r
+back r f =
+    let p : ltb r.first 4294967296 ≡ true = lt-ltb _ _ f.first in
+    let q : ltb r.last 4294967296 ≡ true = lt-ltb _ _ f.last in
+    rw (p, q) refl
+
+each_back : (rs : List LosingRange) → AllByRecursion Fits rs → AllByRecursion (λ r. read_range (range_words r) ≡ Some r) rs
+each_back [] a = tt
+each_back (r ∷ rs) a = (back r a.0, each_back rs a.1)
+
+pub stored : (rs : List LosingRange) (ys us : List ℕ) → us ≡ flat_map range_words rs ++ ys → AllByRecursion Fits rs → Stored us rs
+unfolding Stored
+stored rs ys us e a = rw e (slots_read range_words width range_long read_range rs ys (each_back rs a))
+
+-- ---- ranges up to a bound
+
+below : (x e : ℕ) (rs : List LosingRange) → e ≤ 4294967296 → Apart x rs → ((g : ℕ) → lies_in_one rs g ≡ true → g < e) → AllByRecursion Fits rs
+unfolding Apart lies_in_one
+below x e [] le a h = tt
+below x e (r ∷ rs) le a h =
+    let in_it : lies_in r r.last ≡ true = grind (arith, a.1) in
+    let lt = h r.last (or_left (lies_in r r.last) (lies_in_one rs r.last) in_it) in
+    (record { first = omega (arith, lt, a.1); last = omega (arith, lt) }, below (r.last + 2) e rs le a.2 (λ g t. h g (or_right (lies_in r g) (lies_in_one rs g) t)))
+
+pub ranges_fit : (rs : List Rule) (b : ℕ) → suc b ≤ 1000000001 → AllByRecursion Fits (losing_ranges rs b)
+ranges_fit rs b low =
+    let i = losing_found rs b in
+    below 0 (suc b) (losing_ranges rs b) (omega (arith, low)) i.apart (λ g t. ltb-true g (suc b) (and_parts (ltb g (suc b)) (loses rs b g) (sym (i.exact g) ∙ t)).0)

@@ -1,0 +1,87 @@
+// All ranges of a book, from the table of its segments, whose neighbours join.
+ghost use Rattle.std.specs.Prelude.{◌≡◌, ◌+◌, ◌*◌, ◌<◌, ◌≤◌, List, length, IfSome};
+ghost use Rattle.raise.specs.declared.LosingRange.{LosingRange};
+ghost use Rattle.raise.specs.Ranges.{LosingRanges, losing_ranges};
+ghost use Rattle.lowest.specs.Entries.{width as entry_width};
+ghost use Rattle.lowest.specs.Table.{table as table_of, most_entries, with_table};
+ghost use Rattle.losses.specs.Words.{width, with_ranges, with_row, how_many, Fits, Stored};
+ghost use Rattle.std.specs.List.{AllByRecursion};
+ghost use Rattle.losses.specs.Parts.{joined};
+
+use crate::parts::losing_part;
+use crate::words::put_range;
+use book::Book;
+use lowest::{ENTRY_WORDS, read_entry, write_table};
+use raise::LosingRange;
+
+// The row that may go on and the part as one row, if there is such a row and nothing lies between.
+fn joined(last: Option<LosingRange>, part: LosingRange) -> Option<LosingRange>
+    requires { IfSome last (λ row. row.last < part.first) }
+    ensures { result ≡ joined last part }
+{
+    let row = last?;
+    (row.last + 1 == part.first).then_some(LosingRange {
+        first: row.first,
+        last: part.last,
+    })
+}
+
+// The row, if there is one, written as the i-th, and how many there are then.
+fn put_row(ranges: &mut [u64], i: usize, row: Option<LosingRange>) -> usize
+    requires { IfSome row (λ r. width * i + width ≤ length ranges.old) }
+    ensures count { result ≡ how_many row + i }
+    ensures ranges { ranges.new ≡ with_row ranges.old i row }
+{
+    let Some(row) = row else {
+        return i;
+    };
+    put_range(ranges, i, row);
+    i + 1
+}
+
+// The table of the book is read from its end, the first segment, on: the last row is written once the next part doesn't join it.
+fn write_rows(book: &Book, table: &mut [u64], ranges: &mut [u64]) -> usize
+    requires table { entry_width * most_entries book.now.rules ≤ length table.old }
+    requires ranges { width * most_entries book.now.rules ≤ length ranges.old }
+    ensures count { result ≡ length (losing_ranges book.now.rules book.now.bound) }
+    ensures few { result ≤ most_entries book.now.rules }
+    ensures ranges { ranges.new ≡ with_ranges ranges.old (losing_ranges book.now.rules book.now.bound) }
+    ensures fits { AllByRecursion Fits (losing_ranges book.now.rules book.now.bound) }
+    ensures table { table.new ≡ with_table table.old 0 (table_of book.now.rules book.now.bound) }
+{
+    let count = write_table(table, 0, book);
+    let (entries, _) = table.as_chunks::<ENTRY_WORDS>();
+    let mut rows = 0;
+    let mut last = None;
+    for words in entries[..count].iter().rev() {
+        let Some(part) = read_entry(words).and_then(losing_part) else {
+            continue;
+        };
+        last = match joined(last, part) {
+            None => {
+                rows = put_row(ranges, rows, last);
+                Some(part)
+            }
+            longer => longer,
+        };
+    }
+    put_row(ranges, rows, last)
+}
+
+// The ranges of all who lose, up to the bound, in the first words of `ranges`, and how many there are: from the first to the
+// last, each as long as can be, and none left out. They are read off the table of the book, which is left in the first words of
+// `table`.
+#[tactic(auto, using(crate::proofs::Slots::stored))]
+pub fn write_ranges(book: &Book, table: &mut [u64], ranges: &mut [u64]) -> usize
+    requires table { entry_width * most_entries book.now.rules ≤ length table.old }
+    requires ranges { width * most_entries book.now.rules ≤ length ranges.old }
+    ensures count { result ≡ length (losing_ranges book.now.rules book.now.bound) }
+    ensures few { result ≤ most_entries book.now.rules }
+    ensures ranges { ranges.new ≡ with_ranges ranges.old (losing_ranges book.now.rules book.now.bound) }
+    ensures stored { Stored ranges.new (losing_ranges book.now.rules book.now.bound) }
+    ensures table { table.new ≡ with_table table.old 0 (table_of book.now.rules book.now.bound) }
+    ensures exact { LosingRanges book.now.rules book.now.bound (losing_ranges book.now.rules book.now.bound) }
+    ensures only { (others : List LosingRange) → LosingRanges book.now.rules book.now.bound others → others ≡ losing_ranges book.now.rules book.now.bound }
+{
+    write_rows(book, table, ranges)
+}
