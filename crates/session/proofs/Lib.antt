@@ -1,3 +1,5 @@
 pub mod Runs
 pub mod Nothing
 pub mod OnBytes
+pub mod Scratch
+pub mod Rows

@@ -19,13 +19,13 @@ book_after b c = with_rules b (after (limits b) b.rules c)
 abbrev pub book_ran : Book → List Call → Book
 book_ran b cs = with_rules b (ran (limits b) b.rules cs)
 
-next_behind : (b : Book) (ys : List ℕ) (c : Call) → Good b → next_words (image b ++ ys) c ≡ image (book_after b c) ++ ys
+pub next_behind : (b : Book) (ys : List ℕ) (c : Call) → Good b → next_words (image b ++ ys) c ≡ image (book_after b c) ++ ys
 next_behind b ys c g =
     let d : drop (asked b.limit) (image b ++ ys) ≡ ys = drop_at (image b) ys (asked b.limit) (image_long b g) in
     ap (next_in (image b ++ ys) c) (image_reads b ys g) ∙
     elim (cases_Bool (eqb (turned (limits b) b.rules c) 0)) [ inl t ↦ rw (t, d) refl | inr t ↦ rw t refl ]
 
-says_behind : (b : Book) (ys : List ℕ) (c : Call) → Good b → says_words (image b ++ ys) c ≡ answer (limits b) b.rules c
+pub says_behind : (b : Book) (ys : List ℕ) (c : Call) → Good b → says_words (image b ++ ys) c ≡ answer (limits b) b.rules c
 says_behind b ys c g = ap (says_in c) (image_reads b ys g)
 
 -- a call that is turned away leaves the rules
@@ -191,7 +191,7 @@ right l cs h e r =
     told_desk (opened_words l) cs ∙ ap (λ (ws : List ℕ). told_words ws cs) (opened_image l h) ∙
     told_behind (empty l) [] cs (good_empty l h) ∙ ap (λ (m : Limits). answers m [] cs) (same_limits l e)
 
-left_opened : (l : Limits) (cs : List Call) → GoodLimits l → left_by desk (desk.opened l) cs ≡ record { words = left_words (image (empty l) ++ []) cs }
+pub left_opened : (l : Limits) (cs : List Call) → GoodLimits l → left_by desk (desk.opened l) cs ≡ record { words = left_words (image (empty l) ++ []) cs }
 left_opened l cs h = left_desk (opened_words l) cs ∙ ap (λ (ws : List ℕ). record { words = left_words ws cs }) (opened_image l h)
 
 pub refusal_keeps : RefusalKeeps thin desk

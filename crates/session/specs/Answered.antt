@@ -1,5 +1,5 @@
 -- What the code's answer to a call, or its refusal, says, and what a call comes to on a book. Nothing is assumed.
-use Rattle.std.specs.Prelude.{◌≡◌, ◌<◌, Ok, Err, Result}
+use Rattle.std.specs.Prelude.{◌≡◌, ℕ, ◌<◌, List, Ok, Err, Result}
 use Rattle.raise.specs.Calls as calls
 use Rattle.raise.specs.Calls.{Call, refused, turned, changed, told}
 use Rattle.wire.specs.declared.answers.Refusal.{Refusal}
@@ -28,3 +28,8 @@ pub record TurnedAway (c : Call) (old new : Book) (a : calls.Answer) : Type 0 wh
 abbrev pub Answered : Call → Book → Book → Result Answer Refusal → Type 0
 Answered c old new (Ok a) = Accepted c old new (says a)
 Answered c old new (Err e) = TurnedAway c old new (refused (refusal_number e) (refusal_place e))
+
+-- a list of words is what it was, if a call was turned away
+abbrev pub KeptIfRefused : Result Answer Refusal → List ℕ → List ℕ → Type 0
+KeptIfRefused (Ok a) old new = Unit {0}
+KeptIfRefused (Err e) old new = new ≡ old

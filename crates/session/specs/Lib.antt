@@ -1,3 +1,4 @@
 pub mod Memory
 pub mod Bytes
 pub mod Answered
+pub mod Rows

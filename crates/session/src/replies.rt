@@ -1,7 +1,7 @@
 // The answer to each call, on a book that was read from the words.
 #![tactic(auto, unfolding(raise::specs::Calls::turned, raise::specs::Calls::place, raise::specs::Calls::told, raise::specs::Calls::changed))]
 
-ghost use Rattle.std.specs.Prelude.{◌≡◌, ◌&&◌, Some, None, nat_le};
+ghost use Rattle.std.specs.Prelude.{◌≡◌, ◌≤◌, ◌&&◌, length, Some, None, nat_le};
 ghost use Rattle.raise.specs.Rules.{pick};
 ghost use Rattle.raise.specs.Calls.{lays, lifts, left_of, next_row, safe, number, rule_number, fine as fine_rule};
 ghost use Rattle.raise.specs.Promise.{thin};
@@ -9,11 +9,13 @@ ghost use Rattle.raise.specs.Told.{place_told, row_told};
 ghost use Rattle.wire.specs.Meaning.{meant, asks, says};
 ghost use Rattle.wire.specs.CallBytes.{call_of};
 ghost use Rattle.session.specs.Memory.{says_words, next_words};
-ghost use Rattle.session.specs.Answered.{Answered, says_or};
+ghost use Rattle.losses.specs.Words.{row_words};
+ghost use Rattle.session.specs.Answered.{Answered, KeptIfRefused, says_or};
 
 use book::{Book, is_fine, read_book, write_book};
+use losses::row_from;
 use raise::LosingRange;
-use reference::{row_from, safe_from};
+use reference::safe_from;
 use wire::{Answer, Call, Refusal, Rule, read_call};
 
 // The value, if it is at most so much.
@@ -80,14 +82,16 @@ fn row_answer(row: Option<LosingRange>) -> Answer
     }
 }
 
-// The first row of those who lose, from a gross on.
-fn tell_row(book: &Book, gross: u32) -> Result<Answer, Refusal>
-    ensures { Answered (next_row gross) book.now book.now result }
+// The first row of those who lose, from a gross on. The scratch is written only once the call is accepted.
+fn tell_row(book: &Book, scratch: &mut [u64], gross: u32) -> Result<Answer, Refusal>
+    requires { row_words book.now.rules ≤ length scratch.old }
+    ensures answered { Answered (next_row gross) book.now book.now result }
+    ensures kept { KeptIfRefused result scratch.old scratch.new }
 {
     let Some(gross) = at_most(gross, book.bound()) else {
         return Err(Refusal::OutOfRange);
     };
-    Ok(row_answer(row_from(book, gross)))
+    Ok(row_answer(row_from(book, scratch, gross)))
 }
 
 // Likewise.
@@ -110,15 +114,17 @@ fn tell_safe(book: &Book, gross: u32) -> Result<Answer, Refusal>
     Ok(place_answer(safe_from(book, gross)))
 }
 
-// The answer to a call on a book, and the book after it.
-fn answer_to(book: &mut Book, call: Call) -> Result<Answer, Refusal>
-    ensures { Answered (asks call) book.old book.new result }
+// The answer to a call on a book, and the book after it. A call that is turned away leaves the scratch, too.
+fn answer_to(book: &mut Book, scratch: &mut [u64], call: Call) -> Result<Answer, Refusal>
+    requires { row_words book.old.rules ≤ length scratch.old }
+    ensures answered { Answered (asks call) book.old book.new result }
+    ensures kept { KeptIfRefused result scratch.old scratch.new }
 {
     match call {
         Call::Lay(rule) => lay_rule(book, rule),
         Call::Lift(i) => lift_rule(book, i),
         Call::Left(gross) => tell_left(book, gross),
-        Call::Row(gross) => tell_row(book, gross),
+        Call::Row(gross) => tell_row(book, scratch, gross),
         Call::Safe(gross) => tell_safe(book, gross),
     }
 }
@@ -133,7 +139,8 @@ pub(crate) fn reply(words: &mut [u64], bytes: &[u8]) -> Result<Answer, Refusal>
     let Some(mut book) = read_book(words) else {
         return Err(Refusal::MemoryTooSmall);
     };
-    let answer = answer_to(&mut book, call)?;
+    let scratch = &mut words[book.scratch()];
+    let answer = answer_to(&mut book, scratch, call)?;
     write_book(words, &book);
     Ok(answer)
 }
