@@ -64,7 +64,7 @@ slots_long rs = joined_long slot width slot_long rs
 
 -- ---- rules in range
 
-fine_at : (rs : List Rule) (k : ℕ) (d : Rule) → all_fine rs ≡ true → k < length rs → fine (get_or rs k d) ≡ true
+pub fine_at : (rs : List Rule) (k : ℕ) (d : Rule) → all_fine rs ≡ true → k < length rs → fine (get_or rs k d) ≡ true
 unfolding all_fine
 fine_at [] k d e l = absurd (omega arith)
 fine_at (r ∷ rs) zero d e l = (and_parts (fine r) (all_fine rs) e).0

@@ -1,11 +1,12 @@
 -- The first range from an earning on, range by range.
-use Rattle.std.proofs.Common.{◌≡◌, ℕ, ◌+◌, ◌*◌, ◌/◌, ◌<◌, ◌≤◌, List, ◌∷◌, map, length, get_or, take, drop, Some, None, Option, sym, refl, ap, ◌∙◌, arith}
+use Rattle.std.proofs.Common.{leb, true, false, ◌≡◌, ℕ, ◌+◌, ◌*◌, ◌/◌, ◌<◌, ◌≤◌, List, ◌∷◌, map, length, get_or, take, drop, Some, None, Option, sym, refl, ap, ◌∙◌, inl, inr, arith}
 use Rattle.std.specs.Simd.{first_chunks}
 use Rattle.std.proofs.lemmas.List.{length-map, drop_all}
-use Rattle.std.proofs.lemmas.Bool.{le-leb, lt-leb}
+use Rattle.std.proofs.lemmas.Bool.{both_ways, cases_Bool}
+use Rattle.std.specs.Option.{is_some}
 use Rattle.raise.specs.declared.LosingRange.{LosingRange}
 use Rattle.raise.specs.Ranges.{losing_ranges, greater, range_from}
-use Rattle.raise.specs.Rules.{Rule, first_losing}
+use Rattle.raise.specs.Rules.{pick, Rule, first_losing}
 use Rattle.raise.specs.Calls.{Limits, told, row_from}
 use Rattle.raise.specs.Told.{row_told}
 use Rattle.raise.proofs.Ranges.{losing_found, row_is_first}
@@ -35,13 +36,15 @@ module _ (chunks : List (List ℕ)) (i g : ℕ) (h : Passed chunks i g) (d : Lis
         let q : k.0 ≡ r = cc in
         h ranges e ∙ ap (λ (xs : List LosingRange). range_from xs g) k.2 ∙ ap (λ (x : LosingRange). range_from (x ∷ drop (i + 1) ranges) g) q
 
-    pub is_first : (n : ℕ) → n ≡ greater g r.first → g ≤ r.last → Some (record { first = n; last = r.last }) ≡ range_from ranges g
-    unfolding range_from
-    is_first n m le = let t : range_from (r ∷ drop (i + 1) ranges) g ≡ Some (record { first = n; last = r.last }) = rw (le-leb g r.last le, m) refl in sym (here ∙ t)
+    -- by what of it lies at g or above: it is the first, or it ends below g
+    module _ (o : Option LosingRange) (p : o ≡ pick (leb g r.last) (Some (record { first = greater g r.first; last = r.last })) None) where
+      pub is_first : is_some o ≡ true → o ≡ range_from ranges g
+      unfolding range_from
+      is_first s = elim (cases_Bool (leb g r.last)) [ inl t ↦ rw t at p ∙ sym (here ∙ rw t refl) | inr u ↦ absurd (both_ways (is_some o) (ap is_some (rw u at p)) s) ]
 
-    pub not_first : r.last < g → range_from ranges g ≡ range_from (drop (i + 1) ranges) g
-    unfolding range_from
-    not_first gt = here ∙ rw (lt-leb g r.last gt) refl
+      pub not_first : is_some o ≡ false → range_from ranges g ≡ range_from (drop (i + 1) ranges) g
+      unfolding range_from
+      not_first n = elim (cases_Bool (leb g r.last)) [ inl t ↦ absurd (both_ways (is_some o) n (ap is_some (rw t at p))) | inr u ↦ here ∙ rw u refl ]
 
 -- past them all there is none
 pub none_first : (chunks : List (List ℕ)) (i g : ℕ) (ranges : List LosingRange) → Passed chunks i g → map read_range chunks ≡ map Some ranges → length chunks ≤ i → None ≡ range_from ranges g

@@ -40,6 +40,7 @@ fn put_row(ranges: &mut [u64], i: usize, row: Option<LosingRange>) -> usize
 }
 
 // The table of the book is read from its end, the first segment, on: the last row is written once the next part doesn't join it.
+#[tactic(auto, using(crate::proofs::Walk::room, crate::proofs::Walk::ends_few))]
 fn write_rows(book: &Book, table: &mut [u64], ranges: &mut [u64]) -> usize
     requires table { entry_width * most_entries book.now.rules ≤ length table.old }
     requires ranges { width * most_entries book.now.rules ≤ length ranges.old }

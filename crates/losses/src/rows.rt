@@ -1,10 +1,10 @@
 // The row from a gross on.
-ghost use Rattle.std.specs.Prelude.{◌≡◌, ◌*◌, ◌≤◌, List, length};
+ghost use Rattle.std.specs.Prelude.{◌≡◌, ◌*◌, ◌≤◌, List, length, Some, None, nat_le};
 ghost use Rattle.raise.specs.declared.LosingRange.{LosingRange};
-ghost use Rattle.raise.specs.Rules.{first_losing};
+ghost use Rattle.raise.specs.Rules.{pick, first_losing};
 ghost use Rattle.raise.specs.Calls.{Limits, row_from};
 ghost use Rattle.raise.specs.Told.{row_told};
-ghost use Rattle.raise.specs.Ranges.{range_from};
+ghost use Rattle.raise.specs.Ranges.{greater, range_from};
 ghost use Rattle.losses.specs.Words.{width, Stored, row_words};
 
 use crate::ranges::write_ranges;
@@ -12,19 +12,26 @@ use crate::words::{RANGE_WORDS, read_range};
 use book::Book;
 use raise::LosingRange;
 
-// The first of so many ranges that ends at the gross or above, less what lies before the gross.
+// What of the range lies at the gross or above, if anything does.
+fn part_from(range: LosingRange, gross: u32) -> Option<LosingRange>
+    ensures { result ≡ pick (nat_le gross range.last) (Some (record { first = greater gross range.first; last = range.last })) None }
+{
+    (gross <= range.last).then_some(LosingRange {
+        first: gross.max(range.first),
+        last: range.last,
+    })
+}
+
+// That of the first of so many ranges of which any does.
 fn first_from(words: &[u64], count: usize, gross: u32) -> Option<LosingRange>
     requires { width * count ≤ length words.now }
     ensures { (ranges : List LosingRange) → count ≡ length ranges → Stored words.now ranges → result ≡ range_from ranges gross }
 {
     let (ranges, _) = words.as_chunks::<RANGE_WORDS>();
     for words in &ranges[..count] {
-        let range = read_range(words)?;
-        if gross <= range.last {
-            return Some(LosingRange {
-                first: gross.max(range.first),
-                last: range.last,
-            });
+        let row = part_from(read_range(words)?, gross);
+        if row.is_some() {
+            return row;
         }
     }
     None

@@ -3,6 +3,7 @@ ghost use Rattle.std.specs.Prelude.{◌<◌};
 
 use crate::tables::*;
 use lowest::{Entry, words_for};
+use samples::{NO_BOOK, book_of};
 use std::test::Fail;
 use wire::RuleKind;
 
@@ -10,18 +11,15 @@ use wire::RuleKind;
 // one after that.
 #[test]
 fn as_many_segments(rt: HostRuntime) -> Result<(), Fail> {
-    let mut book = laid(&rt, 200, &[])?;
+    let mut rules = [RuleKind::GiveSum.rule([1, 2, 0]); 64];
     let mut entries = [entry(128, 201, 1_280_000, 10_000, None); 129];
     for i in 0..64 {
-        lay(
-            &rt,
-            &mut book,
-            RuleKind::GiveSum.rule([2 * i + 1, 2 * i + 2, i]),
-        )?;
+        rules[i as usize] = RuleKind::GiveSum.rule([2 * i + 1, 2 * i + 2, i]);
         let (without, with) = two_segments(i);
         entries[128 - 2 * i as usize] = without;
         entries[127 - 2 * i as usize] = with;
     }
+    let book = book_of(200, &rules).ok_or(NO_BOOK)?;
     assert_eq!(rt; words_for(&book), 774);
     has(&rt, &book, &entries);
     Ok(())
@@ -45,14 +43,14 @@ fn two_segments(i: u32) -> (Entry, Entry)
 #[test]
 fn all_at_once(rt: HostRuntime) -> Result<(), Fail> {
     let least = 10_000_000_000_000 - 1_280_000_000_000_000;
-    let book = laid(&rt, MOST, &[RuleKind::Take.rule([0, MOST, 20_000]); 64])?;
+    let book = book_of(MOST, &[RuleKind::Take.rule([0, MOST, 20_000]); 64]).ok_or(NO_BOOK)?;
     let entries = [
         entry(MOST, MOST + 1, least, 10_000, None),
         entry(0, MOST, 0, -1_270_000, Some(least)),
     ];
     has(&rt, &book, &entries);
     let greatest = 1_290_000_000_000_000;
-    let book = laid(&rt, MOST, &[RuleKind::Give.rule([0, MOST, 20_000]); 64])?;
+    let book = book_of(MOST, &[RuleKind::Give.rule([0, MOST, 20_000]); 64]).ok_or(NO_BOOK)?;
     let entries = [
         entry(MOST, MOST + 1, greatest, 10_000, None),
         entry(0, MOST, 0, 1_290_000, Some(greatest)),

@@ -17,26 +17,6 @@ const AT: usize = 10;
 // What all words are before.
 pub(crate) const BEFORE: u64 = 0xb0b0_b0b0_b0b0_b0b0;
 
-pub(crate) fn lay(rt: &impl Abort, book: &mut Book, rule: Rule) -> Result<(), Fail> {
-    if !is_fine(rule) {
-        return Err(Fail::new("out of range"));
-    }
-    assert!(rt; book.lay(rule).is_some());
-    Ok(())
-}
-
-// A book of these rules.
-pub(crate) fn laid(rt: &impl Abort, bound: u32, rules: &[Rule]) -> Result<Book, Fail> {
-    if bound > MOST {
-        return Err(Fail::new("a bound out of range"));
-    }
-    let mut book = Book::new(64, bound);
-    for rule in rules {
-        lay(rt, &mut book, *rule)?;
-    }
-    Ok(book)
-}
-
 pub(crate) fn entry(from: u32, to: u32, net: i64, slope: i64, lowest_above: Option<i64>) -> Entry {
     let segment = Segment {
         from,

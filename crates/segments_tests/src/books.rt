@@ -7,26 +7,6 @@ use wire::Rule;
 
 pub(crate) const MOST: u32 = 1_000_000_000;
 
-pub(crate) fn lay(rt: &impl Abort, book: &mut Book, rule: Rule) -> Result<(), Fail> {
-    if !is_fine(rule) {
-        return Err(Fail::new("out of range"));
-    }
-    assert!(rt; book.lay(rule).is_some());
-    Ok(())
-}
-
-// A book of these rules.
-pub(crate) fn laid(rt: &impl Abort, bound: u32, rules: &[Rule]) -> Result<Book, Fail> {
-    if bound > MOST {
-        return Err(Fail::new("a bound out of range"));
-    }
-    let mut book = Book::new(64, bound);
-    for rule in rules {
-        lay(rt, &mut book, *rule)?;
-    }
-    Ok(book)
-}
-
 // The segment from its first gross on is this.
 pub(crate) fn is(rt: &impl Abort, book: &Book, expected: Segment) -> Result<(), Fail> {
     if expected.from > book.bound() {

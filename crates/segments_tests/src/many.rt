@@ -1,17 +1,17 @@
 // As many rules as a book can hold.
 use crate::books::*;
-use book::Book;
+use samples::{NO_BOOK, book_of};
 use segments::Segment;
-use std::process::Abort;
 use std::test::Fail;
-use wire::RuleKind;
+use wire::{Rule, RuleKind};
 
 // Each rule begins and ends at a breakpoint of its own.
-fn lay_apart(rt: &impl Abort, book: &mut Book) -> Result<(), Fail> {
-    for i in 0..64 {
-        lay(rt, book, RuleKind::GiveSum.rule([2 * i + 1, 2 * i + 2, i]))?;
+fn apart() -> [Rule; 64] {
+    let mut rules = [RuleKind::GiveSum.rule([1, 2, 0]); 64];
+    for i in 0..64u32 {
+        rules[i as usize] = RuleKind::GiveSum.rule([2 * i + 1, 2 * i + 2, i]);
     }
-    Ok(())
+    rules
 }
 
 fn level(from: u32, to: u32, net: i64) -> Segment {
@@ -26,8 +26,7 @@ fn level(from: u32, to: u32, net: i64) -> Segment {
 // 129 segments, with one rule on every other one, and none on the last.
 #[test]
 fn as_many_segments(rt: HostRuntime) -> Result<(), Fail> {
-    let mut book = laid(&rt, 200, &[])?;
-    lay_apart(&rt, &mut book)?;
+    let book = book_of(200, &apart()).ok_or(NO_BOOK)?;
     for i in 0..64u32 {
         let from = 2 * i;
         let net = 20_000 * i64::from(i);
@@ -44,7 +43,7 @@ fn as_many_segments(rt: HostRuntime) -> Result<(), Fail> {
 // All rules hold at once and take most.
 #[test]
 fn all_at_once(rt: HostRuntime) -> Result<(), Fail> {
-    let book = laid(&rt, MOST, &[RuleKind::Take.rule([0, MOST, 20_000]); 64])?;
+    let book = book_of(MOST, &[RuleKind::Take.rule([0, MOST, 20_000]); 64]).ok_or(NO_BOOK)?;
     let at_the_bound = 10_000_000_000_000 - 1_280_000_000_000_000;
     cut(
         &rt,
@@ -56,7 +55,7 @@ fn all_at_once(rt: HostRuntime) -> Result<(), Fail> {
         &book,
         &[(0, u64::MAX), (MOST - 1, u64::MAX), (MOST, 0)],
     );
-    let book = laid(&rt, MOST, &[RuleKind::Give.rule([0, MOST, 20_000]); 64])?;
+    let book = book_of(MOST, &[RuleKind::Give.rule([0, MOST, 20_000]); 64]).ok_or(NO_BOOK)?;
     cut(
         &rt,
         &book,

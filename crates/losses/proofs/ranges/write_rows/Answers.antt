@@ -3,7 +3,7 @@ use Rattle.lowest.specs.Entries.{read_entry}
 use Rattle.lowest.specs.Table.{table, Stored}
 use Rattle.std.specs.Simd.{first_chunks}
 use Rattle.losses.proofs.Lists.{chunks_read}
-use Rattle.losses.proofs.Walk.{begins, read_sized, passes, last_before, joins, parts, room, ends_count, ends_few, ends_words, ends_fit}
+use Rattle.losses.proofs.Walk.{begins, read_sized, passes, last_before, joins, parts, room, ends_count, ends_words, ends_fit}
 use Rattle.losses.proofs.ranges.write_rows.Goals as goal
 
 pub loop-words-init : goal.loop-words-init
@@ -42,14 +42,8 @@ loop-words-preserved c =
     joins c.loop-words.invariant c.next.new.self.iter.rest.now c.in-Some.words.now (search rules) c.in-Some-and_then.part c.read_entry.result c.read_entry.ensures.entry (search rules)
     c.joined.result c.joined.ensures (search rules)
 
-pub put_row-requires : goal.put_row-requires
-put_row-requires c = room c.loop-words.invariant (length c.loop-words.ranges) (search rules)
-
 pub returns-clause-count : goal.returns-clause-count
 returns-clause-count c = ends_count c.loop-words.invariant (search rules) c.put_row.result c.put_row.ensures.count
-
-pub returns-clause-few : goal.returns-clause-few
-returns-clause-few c = ends_few c.loop-words.invariant (search rules) c.put_row.result c.put_row.ensures.count
 
 pub returns-clause-fits : goal.returns-clause-fits
 returns-clause-fits c = ends_fit c.loop-words.invariant (search rules)

@@ -5,18 +5,19 @@ use Rattle.losses.proofs.rows.first_from.Goals as goal
 pub loop-words-init : goal.loop-words-init
 loop-words-init c = λ ranges e. refl
 
-pub returns-in_err-range : goal.returns-in_err-range
-returns-in_err-range c = λ ranges n s.
+pub returns-in_err-read_range : goal.returns-in_err-read_range
+returns-in_err-read_range c = λ ranges n s.
     let e = all_read c.args.words.now c.args.count c.as_chunks.result.0.now ranges c.requires (search rules) n s in
-    absurd (readable _ c.loop-words.words-index c.args.gross c.loop-words.invariant _ (search rules) ranges e c.in_err-range.ensures)
+    absurd (readable _ c.loop-words.words-index c.args.gross c.loop-words.invariant _ (search rules) ranges e c.in_err-read_range.ensures)
 
-pub returns-then-gross-range : goal.returns-then-gross-range
-returns-then-gross-range c = λ ranges n s.
+pub returns-then-is_some : goal.returns-then-is_some
+returns-then-is_some c = λ ranges n s.
     let e = all_read c.args.words.now c.args.count c.as_chunks.result.0.now ranges c.requires (search rules) n s in
-    is_first _ c.loop-words.words-index c.args.gross c.loop-words.invariant _ (search rules) ranges e c.in_ok-range.range c.in_ok-range.ensures c.max.result (search rules) (search rules)
+    is_first _ c.loop-words.words-index c.args.gross c.loop-words.invariant _ (search rules) ranges e c.in_ok-read_range.field-0 c.in_ok-read_range.ensures c.part_from-row.result c.part_from-row.ensures (search rules)
 
 pub loop-words-preserved : goal.loop-words-preserved
-loop-words-preserved c = λ ranges e. not_first _ c.loop-words.words-index c.args.gross c.loop-words.invariant _ (search rules) ranges e c.in_ok-range.range c.in_ok-range.ensures (search rules)
+loop-words-preserved c = λ ranges e.
+    not_first _ c.loop-words.words-index c.args.gross c.loop-words.invariant _ (search rules) ranges e c.in_ok-read_range.field-0 c.in_ok-read_range.ensures c.part_from-row.result c.part_from-row.ensures (search rules)
 
 pub returns : goal.returns
 returns c = λ ranges n s.

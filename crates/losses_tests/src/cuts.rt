@@ -1,0 +1,121 @@
+// Where a range begins and ends on its segments, and where neighbours join.
+use crate::rows::*;
+use samples::{NO_BOOK, book_of};
+use std::test::Fail;
+use wire::RuleKind;
+
+// Of 7 7.0001 are left, and of 10, where 3 are taken, as much: 7 loses just if that is a ten-thousandth less.
+#[test]
+fn around_a_gross(rt: HostRuntime) -> Result<(), Fail> {
+    let rules = [
+        RuleKind::Give.rule([0, 1, 1]),
+        RuleKind::TakeSum.rule([10, 20, 3]),
+    ];
+    let book = book_of(30, &rules).ok_or(NO_BOOK)?;
+    found(&rt, &book, &[(8, 9)]);
+    let less = [rules[0], rules[1], RuleKind::Take.rule([9, 10, 1])];
+    let book = book_of(30, &less).ok_or(NO_BOOK)?;
+    found(&rt, &book, &[(7, 9)]);
+    let more = [rules[0], rules[1], RuleKind::Give.rule([9, 10, 1])];
+    let book = book_of(30, &more).ok_or(NO_BOOK)?;
+    found(&rt, &book, &[(8, 9)]);
+    Ok(())
+}
+
+// The lowest beyond is at the segment's last, just before it, just past it, and at its first.
+#[test]
+fn at_both_ends(rt: HostRuntime) -> Result<(), Fail> {
+    let cases = [
+        (1, &[][..]),
+        (2, &[(9, 9)]),
+        (9, &[(2, 9)]),
+        (10, &[(1, 9)]),
+        (11, &[(0, 9)]),
+        (12, &[(0, 9)]),
+    ];
+    for (sum, expected) in cases {
+        let book = book_of(40, &[RuleKind::TakeSum.rule([10, 40, sum])]).ok_or(NO_BOOK)?;
+        found(&rt, &book, expected);
+    }
+    Ok(())
+}
+
+// Between 10 and 20 the same is left of all: they lose together, just if less is left of 25 or more.
+#[test]
+fn level(rt: HostRuntime) -> Result<(), Fail> {
+    let rules = [
+        RuleKind::Take.rule([10, 20, 10_000]),
+        RuleKind::TakeSum.rule([25, 30, 5]),
+    ];
+    let book = book_of(40, &rules).ok_or(NO_BOOK)?;
+    found(&rt, &book, &[(21, 24)]);
+    let less = [rules[0], rules[1], RuleKind::Take.rule([24, 25, 1])];
+    let book = book_of(40, &less).ok_or(NO_BOOK)?;
+    found(&rt, &book, &[(10, 24)]);
+    Ok(())
+}
+
+// Of who falls only the last has nothing lower beyond; from 20 on more is left again.
+#[test]
+fn the_last_that_falls(rt: HostRuntime) -> Result<(), Fail> {
+    let falls = [
+        RuleKind::Take.rule([10, 20, 15_000]),
+        RuleKind::GiveSum.rule([20, 40, 1]),
+    ];
+    let book = book_of(40, &falls).ok_or(NO_BOOK)?;
+    found(&rt, &book, &[(6, 18)]);
+    let falls_on = [falls[0], RuleKind::TakeSum.rule([20, 40, 1])];
+    let book = book_of(40, &falls_on).ok_or(NO_BOOK)?;
+    found(&rt, &book, &[(5, 19)]);
+    let book = book_of(19, &falls).ok_or(NO_BOOK)?;
+    found(&rt, &book, &[(6, 18)]);
+    let at_once = [RuleKind::Take.rule([10, 11, 15_000])];
+    let book = book_of(10, &at_once).ok_or(NO_BOOK)?;
+    found(&rt, &book, &[]);
+    let book = book_of(11, &at_once).ok_or(NO_BOOK)?;
+    found(&rt, &book, &[(10, 10)]);
+    Ok(())
+}
+
+// One row from the end of a rising segment over one that falls, a level one and one that falls again.
+#[test]
+fn over_segments(rt: HostRuntime) -> Result<(), Fail> {
+    let rules = [
+        RuleKind::Take.rule([10, 20, 12_000]),
+        RuleKind::Take.rule([20, 30, 10_000]),
+        RuleKind::Take.rule([30, 40, 11_000]),
+    ];
+    let book = book_of(60, &rules).ok_or(NO_BOOK)?;
+    found(&rt, &book, &[(8, 39)]);
+    let rows = [
+        (8, Some(range(8, 39))),
+        (20, Some(range(20, 39))),
+        (39, Some(range(39, 39))),
+        (40, None),
+    ];
+    told(&rt, &book, &rows);
+    Ok(())
+}
+
+// Of 12 no more is left than of 14, so it alone does not lose between 9 and 13.
+#[test]
+fn one_apart(rt: HostRuntime) -> Result<(), Fail> {
+    let rules = [
+        RuleKind::Take.rule([10, 12, 20_000]),
+        RuleKind::Take.rule([13, 14, 20_000]),
+    ];
+    let book = book_of(30, &rules).ok_or(NO_BOOK)?;
+    found(&rt, &book, &[(9, 11), (13, 13)]);
+    let rows = [
+        (9, Some(range(9, 11))),
+        (11, Some(range(11, 11))),
+        (12, Some(range(13, 13))),
+        (13, Some(range(13, 13))),
+        (14, None),
+    ];
+    told(&rt, &book, &rows);
+    let joined = [rules[0], rules[1], RuleKind::Take.rule([12, 13, 1])];
+    let book = book_of(30, &joined).ok_or(NO_BOOK)?;
+    found(&rt, &book, &[(8, 13)]);
+    Ok(())
+}

@@ -1,0 +1,15 @@
+// Tests of the ranges of those who lose, as tables: which they are, the row from any gross, and their words.
+#![tactic(auto)]
+
+#[cfg(test)]
+mod cuts;
+#[cfg(test)]
+mod many;
+#[cfg(test)]
+mod rows;
+#[cfg(test)]
+mod shapes;
+#[cfg(test)]
+mod slow;
+#[cfg(test)]
+mod words;

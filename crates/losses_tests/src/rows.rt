@@ -1,0 +1,55 @@
+// What the ranges of a book must be, and the row from a gross.
+use book::Book;
+use losses::{RANGE_WORDS, read_range, row_from, words_for, write_ranges};
+use raise::LosingRange;
+use std::process::Abort;
+
+pub(crate) const MOST: u32 = 1_000_000_000;
+
+// Words for the rows of 64 rules, of which so many are for the table.
+const WORDS: usize = 1032;
+
+const TABLE: usize = 774;
+
+// What all words are before.
+pub(crate) const BEFORE: u64 = 0xb0b0_b0b0_b0b0_b0b0;
+
+pub(crate) fn range(first: u32, last: u32) -> LosingRange {
+    LosingRange { first, last }
+}
+
+// The ranges of the book are just these, and the words behind them stay.
+pub(crate) fn found(rt: &impl Abort, book: &Book, expected: &[(u32, u32)]) {
+    assert!(rt; words_for(book) <= WORDS);
+    let mut table = [BEFORE; TABLE];
+    let mut ranges = [BEFORE; WORDS - TABLE];
+    let count = write_ranges(book, &mut table, &mut ranges);
+    assert_eq!(rt; count, expected.len());
+    let (words, _) = ranges.as_chunks::<RANGE_WORDS>();
+    for (words, (first, last)) in words.iter().zip(expected) {
+        assert_eq!(rt; read_range(words), Some(range(*first, *last)));
+    }
+    assert!(rt; ranges.len() >= RANGE_WORDS * count);
+    for word in &ranges[RANGE_WORDS * count..] {
+        assert_eq!(rt; *word, BEFORE);
+    }
+}
+
+// From each gross on the row is this.
+pub(crate) fn told(rt: &impl Abort, book: &Book, expected: &[(u32, Option<LosingRange>)]) {
+    assert!(rt; words_for(book) <= WORDS);
+    let mut scratch = [BEFORE; WORDS];
+    for (gross, row) in expected {
+        assert_eq!(rt; row_from(book, &mut scratch, *gross), *row);
+    }
+}
+
+// From each gross up to the bound the row is the one that is found by trying every earning.
+pub(crate) fn as_tried(rt: &impl Abort, book: &Book) {
+    assert!(rt; words_for(book) <= WORDS);
+    let mut scratch = [BEFORE; WORDS];
+    for gross in 0..=book.bound() {
+        let row = row_from(book, &mut scratch, gross);
+        assert_eq!(rt; row, reference::row_from(book, gross));
+    }
+}

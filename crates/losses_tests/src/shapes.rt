@@ -1,0 +1,105 @@
+// Which grosses lose: each book here gets another answer where it is looked at in a way that is easily taken.
+use crate::rows::*;
+use samples::{NO_BOOK, book_of};
+use std::test::Fail;
+use wire::RuleKind;
+
+#[test]
+fn nobody(rt: HostRuntime) -> Result<(), Fail> {
+    let book = book_of(0, &[]).ok_or(NO_BOOK)?;
+    found(&rt, &book, &[]);
+    told(&rt, &book, &[(0, None), (7, None)]);
+    let book = book_of(MOST, &[]).ok_or(NO_BOOK)?;
+    found(&rt, &book, &[]);
+    let all_is_taken = [RuleKind::Take.rule([0, 10, 10_000])];
+    let book = book_of(20, &all_is_taken).ok_or(NO_BOOK)?;
+    found(&rt, &book, &[]);
+    Ok(())
+}
+
+// By itself neither of these takes more than all; together they do.
+#[test]
+fn two_rules_together(rt: HostRuntime) -> Result<(), Fail> {
+    let rules = [
+        RuleKind::Take.rule([10, 20, 6_000]),
+        RuleKind::Take.rule([10, 20, 6_000]),
+    ];
+    let book = book_of(40, &rules[..1]).ok_or(NO_BOOK)?;
+    found(&rt, &book, &[]);
+    let book = book_of(40, &rules).ok_or(NO_BOOK)?;
+    found(&rt, &book, &[(9, 19)]);
+    Ok(())
+}
+
+// Whoever earns 950 to 999 has more with one unit more, and less with 100 more.
+#[test]
+fn not_by_the_next_unit(rt: HostRuntime) -> Result<(), Fail> {
+    let rules = [RuleKind::Take.rule([1_000, 1_050, 20_000])];
+    let book = book_of(2_000, &rules).ok_or(NO_BOOK)?;
+    found(&rt, &book, &[(951, 1_049)]);
+    told(&rt, &book, &[(960, Some(range(960, 1_049)))]);
+    Ok(())
+}
+
+// A sum of 3 is taken from 10 on, and no more from 20 on. Of 9 as much is left as of 12, and of 10 and 11 less.
+#[test]
+fn from_the_border_on(rt: HostRuntime) -> Result<(), Fail> {
+    let book = book_of(30, &[RuleKind::TakeSum.rule([10, 20, 3])]).ok_or(NO_BOOK)?;
+    found(&rt, &book, &[(8, 9)]);
+    let rows = [
+        (0, Some(range(8, 9))),
+        (8, Some(range(8, 9))),
+        (9, Some(range(9, 9))),
+        (10, None),
+        (30, None),
+    ];
+    told(&rt, &book, &rows);
+    let book = book_of(9, &[RuleKind::TakeSum.rule([10, 20, 3])]).ok_or(NO_BOOK)?;
+    found(&rt, &book, &[]);
+    let book = book_of(10, &[RuleKind::TakeSum.rule([10, 20, 3])]).ok_or(NO_BOOK)?;
+    found(&rt, &book, &[(8, 9)]);
+    Ok(())
+}
+
+// Of 6 a ten-thousandth less is left than of 5: 4.9999.
+#[test]
+fn not_rounded(rt: HostRuntime) -> Result<(), Fail> {
+    let book = book_of(6, &[RuleKind::Take.rule([5, 6, 10_001])]).ok_or(NO_BOOK)?;
+    found(&rt, &book, &[(5, 5)]);
+    let book = book_of(6, &[RuleKind::Take.rule([5, 6, 10_000])]).ok_or(NO_BOOK)?;
+    found(&rt, &book, &[]);
+    Ok(())
+}
+
+// The fade takes nine tenths of each unit between 5 and 15, and the tax two more.
+#[test]
+fn fade_and_tax(rt: HostRuntime) -> Result<(), Fail> {
+    let rules = [
+        RuleKind::Fade.rule([5, 9_000, 9]),
+        RuleKind::Take.rule([0, 100, 2_000]),
+    ];
+    let book = book_of(40, &rules).ok_or(NO_BOOK)?;
+    found(&rt, &book, &[(4, 14)]);
+    Ok(())
+}
+
+// A family: 20 % of what is above 1,000, 40 % above 3,000, 200 below 1,500, and 300 that fade by 30 % above 500.
+#[test]
+fn a_family(rt: HostRuntime) -> Result<(), Fail> {
+    let rules = [
+        RuleKind::Take.rule([1_000, 3_000, 2_000]),
+        RuleKind::Take.rule([3_000, 100_000, 4_000]),
+        RuleKind::GiveSum.rule([0, 1_500, 200]),
+        RuleKind::Fade.rule([500, 3_000, 300]),
+    ];
+    let book = book_of(5_000, &rules).ok_or(NO_BOOK)?;
+    found(&rt, &book, &[(1_101, 1_499)]);
+    let rows = [
+        (1_100, Some(range(1_101, 1_499))),
+        (1_300, Some(range(1_300, 1_499))),
+        (1_499, Some(range(1_499, 1_499))),
+        (1_500, None),
+    ];
+    told(&rt, &book, &rows);
+    Ok(())
+}
