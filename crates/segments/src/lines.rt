@@ -1,5 +1,5 @@
 // A segment: the grosses from one on, up to before the next breakpoint, with the line that net is on it.
-ghost use Rattle.std.specs.Prelude.{◌≡◌, ◌<◌, ◌≤◌, pos, ◌≤ℤ◌};
+ghost use Rattle.std.specs.Prelude.{◌≡◌, ◌+◌, ◌<◌, ◌≤◌, min, pos, ◌≤ℤ◌};
 ghost use Rattle.raise.specs.Net.{on_line};
 ghost use Rattle.segments.specs.Segments.{segment_at, SegmentOf, Sized, SegmentsCover, FirstAbove};
 
@@ -16,6 +16,13 @@ pub struct Segment {
     pub slope: i64,
 }
 
+// The gross one past so many steps, or the greatest number there is, where that is less.
+fn one_past(from: u32, steps: u64) -> u64
+    ensures { result ≡ min (from + steps + 1) 18446744073709551615 }
+{
+    u64::from(from).saturating_add(steps).saturating_add(1)
+}
+
 impl Segment {
     // Net at a gross on the segment, by its line.
     pub fn net_at(self, gross: u32) -> i64
@@ -28,6 +35,7 @@ impl Segment {
     }
 
     // The first gross on a segment that doesn't fall of which more is left than so much, if there is one; of all after it, too.
+    #[tactic(auto, using(crate::proofs::Above::found_above, crate::proofs::Above::none_above))]
     pub fn first_above(self, level: i64) -> Option<u32>
         requires some { self.from < self.to }
         requires rises { pos 0 ≤ℤ self.slope }
@@ -40,7 +48,7 @@ impl Segment {
         let steps = level
             .abs_diff(self.net)
             .checked_div(self.slope.unsigned_abs())?;
-        let first = u64::from(self.from).saturating_add(steps).saturating_add(1);
+        let first = one_past(self.from, steps);
         if first < u64::from(self.to) {
             // No `From` narrows; it is below `to`.
             Some(first as u32)
