@@ -1,7 +1,7 @@
 -- Rules in slots: what was written reads back, one slot more, and what is left when one is lifted.
 use Rattle.std.proofs.Common.{◌≡◌, ℕ, zero, suc, ◌+◌, ◌*◌, ◌<◌, ◌≤◌, Bool, true, ◌&&◌, leb, List, [], ◌∷◌, ◌++◌, map, length, get_or, take, drop, Some, None, Option, sym, refl, ap, ◌∙◌, inl, inr, append_assoc, arith}
 use Rattle.std.specs.Simd.{first_chunks}
-use Rattle.std.specs.List.{AllByRecursion, flat_map, slice_get}
+use Rattle.std.specs.List.{AllByRecursion, flat_map}
 use Rattle.std.proofs.lemmas.List.{take_all, take_at, take_more, take-map, drop_at, drop-drop, drop-map, length-append, length_push, flat_map_more, map-append, map_more, get_or-take}
 use Rattle.std.proofs.lemmas.Bool.{and_parts, and_from, cases_Bool}
 use Rattle.raise.specs.Rules.{pick, Rule, takes, gives, takes_sum, gives_sum, fades}
@@ -10,6 +10,7 @@ use Rattle.raise.proofs.Picks.{none_some}
 use Rattle.wire.specs.declared.calls.Rule as declared
 use Rattle.wire.specs.Meaning.{meant}
 use Rattle.wire.specs.CallBytes.{rule_from}
+use Rattle.book.specs.Slots.{StoredBy}
 use Rattle.book.specs.Held.{slot, width, if_fine, slot_rule, one_more, rules_of, all_fine}
 
 -- ---- words, slot by slot
@@ -29,17 +30,18 @@ drop_slots f w h (x ∷ xs) ys (suc k) d l =
     ap (λ (t : List ℕ). drop (w * k) (drop w t)) (append_assoc (f x) (flat_map f xs) ys) ∙
     ap (drop (w * k)) (drop_at (f x) (flat_map f xs ++ ys) w (h x)) ∙ drop_slots f w h xs ys k d (omega arith)
 
--- if the words of each read back, each reads back from its place
-pub slots_read : {X : Type 0} (f : X → List ℕ) (w : ℕ) → ((x : X) → length (f x) ≡ w) → (read : List ℕ → Option X) (xs : List X) (ys : List ℕ) →
-    AllByRecursion (λ x. read (f x) ≡ Some x) xs → (i : ℕ) → i < length xs → read (take w (drop (w * i) (flat_map f xs ++ ys))) ≡ slice_get xs i
-slots_read f w h read [] ys a i l = absurd (omega arith)
-slots_read f w h read (x ∷ xs) ys a zero l =
-    ap (λ (t : List ℕ). read (take w t)) (drop_slots f w h (x ∷ xs) ys 0 x l) ∙ ap read (take_at (f x) (flat_map f xs ++ ys) w (h x)) ∙ a.0
-slots_read f w h read (x ∷ xs) ys a (suc i) l =
+-- if the words of each that fits read back, each reads back from its place
+pub slots_read : {X : Type 0} (f : X → List ℕ) (w : ℕ) → ((x : X) → length (f x) ≡ w) → (read : List ℕ → Option X) (P : X → Type 0) → ((x : X) → P x → read (f x) ≡ Some x) →
+    (xs : List X) (ys : List ℕ) → AllByRecursion P xs → StoredBy read w (flat_map f xs ++ ys) xs
+unfolding StoredBy
+slots_read f w h read P back [] ys a i l = absurd (omega arith)
+slots_read f w h read P back (x ∷ xs) ys a zero l =
+    ap (λ (t : List ℕ). read (take w t)) (drop_slots f w h (x ∷ xs) ys 0 x l) ∙ ap read (take_at (f x) (flat_map f xs ++ ys) w (h x)) ∙ back x a.0
+slots_read f w h read P back (x ∷ xs) ys a (suc i) l =
     let z : w * suc i ≡ w + w * i = omega arith in
     ap (λ (n : ℕ). read (take w (drop n ((f x ++ flat_map f xs) ++ ys)))) z ∙ ap (λ (t : List ℕ). read (take w t)) (sym (drop-drop (w * i) w ((f x ++ flat_map f xs) ++ ys))) ∙
     ap (λ (t : List ℕ). read (take w (drop (w * i) (drop w t)))) (append_assoc (f x) (flat_map f xs) ys) ∙
-    ap (λ (t : List ℕ). read (take w (drop (w * i) t))) (drop_at (f x) (flat_map f xs ++ ys) w (h x)) ∙ slots_read f w h read xs ys a.1 i (omega arith)
+    ap (λ (t : List ℕ). read (take w (drop (w * i) t))) (drop_at (f x) (flat_map f xs ++ ys) w (h x)) ∙ slots_read f w h read P back xs ys a.1 i (omega arith)
 
 -- one more behind those that were written, in words of which ws were there before
 pub one_written : {X : Type 0} (f : X → List ℕ) (w : ℕ) → ((x : X) → length (f x) ≡ w) → (xs : List X) (x : X) (ws us : List ℕ) → us ≡ flat_map f xs ++ drop (w * length xs) ws →

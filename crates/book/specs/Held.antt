@@ -46,12 +46,9 @@ width = 4
 abbrev pub slot : Rule → List ℕ
 slot r = rule_number r ∷ numbers r
 
--- where the scratch begins behind the slots of a limit of n rules, and how many words it has
+-- where the scratch begins: behind the slots of a limit of n rules
 abbrev pub scratch_from : ℕ → ℕ
 scratch_from n = 4 + width * n
-
-abbrev pub scratch_words : ℕ → ℕ
-scratch_words n = 28 * n + 60
 
 -- front and slots, and zeros up to the last word asked for
 unfoldable pub image : Book → List ℕ

@@ -1,3 +1,4 @@
 pub mod Held
 pub mod Meant
 pub mod Value
+pub mod Slots

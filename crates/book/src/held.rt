@@ -4,7 +4,7 @@ ghost use Rattle.std.specs.List.{slice_get};
 ghost use Rattle.raise.specs.Rules.{pick};
 ghost use Rattle.raise.specs.Calls.{lays, lifts, changed, fine as fine_rule};
 ghost use Rattle.wire.specs.Meaning.{meant};
-ghost use Rattle.book.specs.Held.{asked, width, scratch_from, scratch_words, with_rules, image, rules_of, book_of, head_fine, has_room, has_rule, Within, ReadsBack, HoldsGood, ImagesDiffer};
+ghost use Rattle.book.specs.Held.{asked, width, scratch_from, with_rules, image, rules_of, book_of, head_fine, has_room, has_rule, Within, ReadsBack, HoldsGood, ImagesDiffer};
 ghost use Rattle.book.specs.Meant.{all_meant, meant_if, meant_list};
 ghost use Rattle.book.specs.Value.{ReadIf};
 
@@ -182,12 +182,11 @@ impl Book {
         self.bound
     }
 
-    // Where in its words the scratch lies: behind the slots, up to the last word that is asked for. What is written there is
-    // cleared as soon as the book is written again.
+    // Where the scratch lies in the words that hold the book: behind the slots, up to the last word that is asked for. What is
+    // written there is cleared as soon as the book is written again.
     pub fn scratch(&self) -> Range<usize>
         ensures from { result.start ≡ scratch_from self.now.limit }
         ensures to { result.end ≡ asked self.now.limit }
-        ensures room { result.start + scratch_words self.now.limit ≡ result.end }
     {
         FRONT + SLOT * self.limit as usize..words_asked(self.limit)
     }

@@ -4,7 +4,7 @@ use Rattle.std.proofs.Math.Bool.{or_assoc}
 use Rattle.std.proofs.lemmas.Bool.{cases_lt, lt-ltb, le-ltb}
 use Rattle.raise.specs.declared.LosingRange.{LosingRange}
 use Rattle.raise.specs.Ranges.{lies_in, lies_in_one, Apart, RangesOf}
-use Rattle.losses.specs.Parts.{lies_if}
+use Rattle.losses.specs.Parts.{lies_if, PartOf}
 
 -- ---- where these lie
 
@@ -35,30 +35,25 @@ last_some x (q ∷ rs) r a = last_some (q.last + 2) rs r a.2
 
 -- ---- what these say
 
-module _ (test : ℕ → Bool) (x y : ℕ) (lt : x < y) (p : Option LosingRange) where
-  -- p is what of [x, y) passes the test
-  pub record Passing : Type 0 where
-    pub exact : (g : ℕ) → x ≤ g → g < y → lies_if p g ≡ test g
-    pub within : IfSome p (λ r. (x ≤ r.first) × (r.first ≤ r.last) × (r.last < y))
-
-  outside : Passing → (g : ℕ) → (g < x) ⊎ (y ≤ g) → lies_if p g ≡ false
-  outside i g off = by_part p i.within
+module _ (test : ℕ → Bool) (x y : ℕ) (lt : x < y) (p : Option LosingRange) (i : PartOf test x y p) where
+  outside : (g : ℕ) → (g < x) ⊎ (y ≤ g) → lies_if p g ≡ false
+  outside g off = by_part p i.within
     where
       by_part : (o : Option LosingRange) → IfSome o (λ r. (x ≤ r.first) × (r.first ≤ r.last) × (r.last < y)) → lies_if o g ≡ false
       by_part None w = refl
       by_part (Some r) w = elim off [ inl under ↦ grind (arith, w.0, w.1, w.2, under) | inr past ↦ grind (arith, w.0, w.1, w.2, past) ]
 
   -- so it goes behind the ranges of [0, x)
-  pub extended : (all more : List LosingRange) → Passing → RangesOf test x all → ((g : ℕ) → lies_in_one more g ≡ (lies_in_one all g || lies_if p g)) → Apart 0 more → RangesOf test y more
-  extended all more i before same apart = record { apart = apart; exact = λ g. same g ∙ told g }
+  pub extended : (all more : List LosingRange) → RangesOf test x all → ((g : ℕ) → lies_in_one more g ≡ (lies_in_one all g || lies_if p g)) → Apart 0 more → RangesOf test y more
+  extended all more before same apart = record { apart = apart; exact = λ g. same g ∙ told g }
     where
       told : (g : ℕ) → (lies_in_one all g || lies_if p g) ≡ (ltb g y && test g)
       told g =
           let e = before.exact g in
           elim (cases_lt g x) [
-            | inl under ↦ let o = outside i g (inl under) in rw (e, o, lt-ltb g x under, lt-ltb g y (omega (arith, lt, under))) (grind arith)
+            | inl under ↦ let o = outside g (inl under) in rw (e, o, lt-ltb g x under, lt-ltb g y (omega (arith, lt, under))) (grind arith)
             | inr from ↦ elim (cases_lt g y) [
               | inl inside ↦ rw (e, i.exact g from inside, le-ltb g x from, lt-ltb g y inside) refl
-              | inr past ↦ rw (e, outside i g (inr past), le-ltb g x from, le-ltb g y past) refl
+              | inr past ↦ rw (e, outside g (inr past), le-ltb g x from, le-ltb g y past) refl
             ]
           ]

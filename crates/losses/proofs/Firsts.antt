@@ -5,12 +5,13 @@ use Rattle.std.proofs.lemmas.List.{length-map, drop_all}
 use Rattle.std.proofs.lemmas.Bool.{both_ways, cases_Bool}
 use Rattle.std.specs.Option.{is_some}
 use Rattle.raise.specs.declared.LosingRange.{LosingRange}
-use Rattle.raise.specs.Ranges.{losing_ranges, greater, range_from}
-use Rattle.raise.specs.Rules.{pick, Rule, first_losing}
+use Rattle.raise.specs.Ranges.{losing_ranges, rest_from, range_from}
+use Rattle.raise.specs.Rules.{Rule, first_losing}
 use Rattle.raise.specs.Calls.{Limits, told, row_from}
 use Rattle.raise.specs.Told.{row_told}
 use Rattle.raise.proofs.Ranges.{losing_found, row_is_first}
 use Rattle.raise.proofs.Picks.{none_some}
+use Rattle.book.specs.Slots.{StoredBy}
 use Rattle.losses.specs.Words.{width, read_range, Stored}
 use Rattle.losses.proofs.Lists.{chunks_read, read_at}
 
@@ -21,7 +22,7 @@ Passed chunks i g = (ranges : List LosingRange) → map read_range chunks ≡ ma
 -- so many chunks of words that hold so many ranges
 pub all_read : (ws : List ℕ) (count : ℕ) (chunks : List (List ℕ)) (ranges : List LosingRange) → width * count ≤ length ws → chunks ≡ first_chunks width (length ws / width) ws → count ≡ length ranges → Stored ws ranges →
     map read_range (take count chunks) ≡ map Some ranges
-unfolding Stored
+unfolding StoredBy
 all_read ws count chunks ranges le c n s = rw (c, n) (chunks_read read_range width ranges (length ws / width) ws (omega (arith, le, n)) s)
 
 module _ (chunks : List (List ℕ)) (i g : ℕ) (h : Passed chunks i g) (d : List ℕ) (lt : i < length chunks) (ranges : List LosingRange) (e : map read_range chunks ≡ map Some ranges) where
@@ -37,7 +38,7 @@ module _ (chunks : List (List ℕ)) (i g : ℕ) (h : Passed chunks i g) (d : Lis
         h ranges e ∙ ap (λ (xs : List LosingRange). range_from xs g) k.2 ∙ ap (λ (x : LosingRange). range_from (x ∷ drop (i + 1) ranges) g) q
 
     -- by what of it lies at g or above: it is the first, or it ends below g
-    module _ (o : Option LosingRange) (p : o ≡ pick (leb g r.last) (Some (record { first = greater g r.first; last = r.last })) None) where
+    module _ (o : Option LosingRange) (p : o ≡ rest_from r g) where
       pub is_first : is_some o ≡ true → o ≡ range_from ranges g
       unfolding range_from
       is_first s = elim (cases_Bool (leb g r.last)) [ inl t ↦ rw t at p ∙ sym (here ∙ rw t refl) | inr u ↦ absurd (both_ways (is_some o) (ap is_some (rw u at p)) s) ]
@@ -56,4 +57,4 @@ none_first chunks i g ranges h e le =
 -- the first range of a book is the row
 pub row_is : (rs : List Rule) (b g : ℕ) (o : Option LosingRange) → o ≡ range_from (losing_ranges rs b) g → (l : Limits) → l.bound ≡ b → row_told o ≡ row_from l rs (first_losing rs b g)
 unfolding told
-row_is rs b g o e l d = rw (← d) (ap row_told (rw d e) ∙ row_is_first l rs (losing_ranges rs l.bound) (losing_found rs l.bound) g)
+row_is rs b g o e l d = rw (← d) (ap row_told (rw d e) ∙ row_is_first l rs g (losing_ranges rs l.bound) (losing_found rs l.bound))

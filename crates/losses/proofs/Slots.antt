@@ -8,7 +8,7 @@ use Rattle.raise.specs.Rules.{Rule, loses}
 use Rattle.raise.specs.Ranges.{lies_in, lies_in_one, Apart, losing_ranges}
 use Rattle.raise.proofs.Ranges.{losing_found}
 use Rattle.book.proofs.Places.{one_written, slots_read}
-use Rattle.losses.specs.Words.{width, range_words, with_row, how_many, read_range, Fits, Stored}
+use Rattle.losses.specs.Words.{width, range_words, with_row, how_many, read_range, Fits, ReadsBack, Stored}
 
 range_long : (r : LosingRange) → length (range_words r) ≡ width
 range_long r = refl
@@ -29,19 +29,14 @@ row_put ws us rows count (Some r) c w =
 
 -- ---- what reads back
 
-back : (r : LosingRange) → Fits r → read_range (range_words r) ≡ Some r
-back r f =
+pub reads_back : ReadsBack
+reads_back r f =
     let p : ltb r.first 4294967296 ≡ true = lt-ltb _ _ f.first in
     let q : ltb r.last 4294967296 ≡ true = lt-ltb _ _ f.last in
     rw (p, q) refl
 
-each_back : (rs : List LosingRange) → AllByRecursion Fits rs → AllByRecursion (λ r. read_range (range_words r) ≡ Some r) rs
-each_back [] a = tt
-each_back (r ∷ rs) a = (back r a.0, each_back rs a.1)
-
 pub stored : (rs : List LosingRange) (ys us : List ℕ) → us ≡ flat_map range_words rs ++ ys → AllByRecursion Fits rs → Stored us rs
-unfolding Stored
-stored rs ys us e a = rw e (slots_read range_words width range_long read_range rs ys (each_back rs a))
+stored rs ys us e a = rw e (slots_read range_words width range_long read_range Fits reads_back rs ys a)
 
 -- ---- ranges up to a bound
 

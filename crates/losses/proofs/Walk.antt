@@ -10,18 +10,22 @@ use Rattle.segments.specs.Segments.{segments, Chain}
 use Rattle.segments.proofs.Cover.{segments_cover}
 use Rattle.lowest.specs.declared.entries.Entry.{Entry}
 use Rattle.lowest.specs.Entries.{read_entry}
-use Rattle.lowest.specs.Table.{entry, table, most_entries, EntryOf, SizedEntry}
+use Rattle.lowest.specs.Table.{entry, table, most_entries, EntryOf, SizedEntry, loses_on}
 use Rattle.lowest.proofs.Tells.{table_is, by_entry}
 use Rattle.losses.specs.Words.{width, range_words, with_row, how_many, with_ranges, Fits}
 use Rattle.losses.proofs.Slots.{with_last, row_put, ranges_fit}
-use Rattle.losses.specs.Parts.{loses_on, PartOf, joined}
+use Rattle.losses.specs.Parts.{PartOf, joined}
 use Rattle.losses.proofs.Lists.{map_back, next_read, none_ahead, all_split}
-use Rattle.losses.proofs.Behind.{lies_push, apart_first, apart_push, apart_longer, last_some, Passing, extended}
+use Rattle.losses.proofs.Behind.{lies_push, apart_first, apart_push, apart_longer, last_some, extended}
 use Rattle.std.proofs.lemmas.Grind.{reverse_onto}
 use Rattle.std.proofs.lemmas.Simd.{map-map}
 use Rattle.std.proofs.lemmas.Bool.{or_right, and_parts, ltb-true, cases_eq, eq-eqb, ne_eqb, eqb-false}
 use Rattle.std.proofs.Math.Bool.{or_assoc}
 use Rattle.std.proofs.lemmas.List.{map-id, length-map, length_push}
+
+-- the part of an entry's segment that loses
+abbrev pub PartIn : Entry → Option LosingRange → Type 0
+PartIn e p = PartOf (loses_on e) e.segment.from e.segment.to p
 
 -- where the walk stands: es are the entries ahead, the next of them first, and x is where its segment begins; rows are written, in
 -- words of which ws were there before
@@ -124,7 +128,7 @@ module _ {rs : List Rule} {b : ℕ} {ws : List ℕ} {all : List (List ℕ)} {cou
   read_sized o f x g = rw (← same o f x g) (sized.1, some)
 
   -- the part of what was read
-  part_read : (o : Option Entry) (p : Option LosingRange) → o ≡ read_entry words → MatchOption o (p ≡ None) (λ x. PartOf x p) → PartOf e p
+  part_read : (o : Option Entry) (p : Option LosingRange) → o ≡ read_entry words → MatchOption o (p ≡ None) (λ x. PartIn x p) → PartIn e p
   part_read None p f m = none_some e (f ∙ first.4)
   part_read (Some x) p f m = rw (same (Some x) f x refl) m
 
@@ -135,12 +139,12 @@ module _ {rs : List Rule} {b : ℕ} {ws : List ℕ} {all : List (List ℕ)} {cou
   more : a.x < e.segment.to
   more = omega (arith, chain.0, some)
 
-  module _ (p : Option LosingRange) (part : PartOf e p) where
-    passing : Passing (loses rs b) a.x e.segment.to more p
+  module _ (p : Option LosingRange) (part : PartIn e p) where
+    passing : PartOf (loses rs b) a.x e.segment.to p
     passing = record { exact = λ g lo hi. part.exact g (omega (arith, chain.0, lo)) hi ∙ sym (here g lo hi); within = rw (← chain.0) part.within }
 
   -- no part of it loses
-  pub passes : (o : Option Entry) → o ≡ read_entry words → MatchOption o (◌≡◌ {A = Option LosingRange} None None) (λ x. PartOf x None) → At rs b ws chunks count last us
+  pub passes : (o : Option Entry) → o ≡ read_entry words → MatchOption o (◌≡◌ {A = Option LosingRange} None None) (λ x. PartIn x None) → At rs b ws chunks count last us
   unfolding Chain
   passes o f m =
       let part = part_read o None f m in
@@ -155,16 +159,16 @@ module _ {rs : List Rule} {b : ℕ} {ws : List ℕ} {all : List (List ℕ)} {cou
         rows = a.rows;
         counted = a.counted;
         written = a.written;
-        found = extended (loses rs b) a.x e.segment.to more None (with_last a.rows last) (with_last a.rows last) (passing None part) a.found (λ g. grind arith) a.found.apart;
+        found = extended (loses rs b) a.x e.segment.to more None (passing None part) (with_last a.rows last) (with_last a.rows last) a.found (λ g. grind arith) a.found.apart;
         fresh = a.fresh;
         room = omega (arith, a.room, ap length first.2);
       })
 
-  module _ (p : LosingRange) (o : Option Entry) (f : o ≡ read_entry words) (m : MatchOption o (Some p ≡ None) (λ x. PartOf x (Some p))) where
-    part : PartOf e (Some p)
+  module _ (p : LosingRange) (o : Option Entry) (f : o ≡ read_entry words) (m : MatchOption o (Some p ≡ None) (λ x. PartIn x (Some p))) where
+    part : PartIn e (Some p)
     part = part_read o (Some p) f m
 
-    q : Passing (loses rs b) a.x e.segment.to more (Some p)
+    q : PartOf (loses rs b) a.x e.segment.to (Some p)
     q = passing (Some p) part
 
     pub last_before : IfSome last (λ r. r.last < p.first)
@@ -191,7 +195,7 @@ module _ {rs : List Rule} {b : ℕ} {ws : List ℕ} {all : List (List ℕ)} {cou
               λ g. lies_push a.rows k g ∙ ap (λ (t : Bool). lies_in_one a.rows g || t) (both g) ∙ sym (or_assoc (lies_in_one a.rows g) (lies_in r g) (lies_in p g)) ∙
               ap (λ (t : Bool). t || lies_in p g) (sym (lies_push a.rows r g)) in
               rw t (
-                extended (loses rs b) a.x e.segment.to more (Some p) (a.rows ++ (r ∷ [])) (a.rows ++ (k ∷ [])) q i same (apart_longer 0 a.rows r p i.apart (omega (arith, touch, w.1))),
+                extended (loses rs b) a.x e.segment.to more (Some p) q (a.rows ++ (r ∷ [])) (a.rows ++ (k ∷ [])) i same (apart_longer 0 a.rows r p i.apart (omega (arith, touch, w.1))),
                 length_push a.rows k ∙ sym (length_push a.rows r),
               )
         ]
@@ -233,7 +237,7 @@ module _ {rs : List Rule} {b : ℕ} {ws : List ℕ} {all : List (List ℕ)} {cou
           rows = rows;
           counted = c ∙ put.0;
           written = rw c (w ∙ put.1);
-          found = extended (loses rs b) a.x e.segment.to more (Some p) rows (rows ++ (p ∷ [])) q a.found (λ g. lies_push rows p g) (apart last a.found j a.fresh);
+          found = extended (loses rs b) a.x e.segment.to more (Some p) q rows (rows ++ (p ∷ [])) a.found (λ g. lies_push rows p g) (apart last a.found j a.fresh);
           fresh = λ z. none_some p (sym z);
           room = omega (arith, a.room, ap length first.2, length_push rows p);
         })

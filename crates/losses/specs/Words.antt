@@ -1,8 +1,11 @@
 -- Ranges in words. Definitions only: nothing is assumed.
-use Rattle.std.specs.Prelude.{◌≡◌, ℕ, ◌+◌, ◌*◌, ◌<◌, ◌&&◌, List, [], ◌∷◌, ◌++◌, length, take, drop, Some, None, Option, nat_lt, slice_index, slice_get}
+use Rattle.std.specs.Prelude.{◌≡◌, ℕ, ◌+◌, ◌*◌, ◌<◌, ◌&&◌, List, [], ◌∷◌, ◌++◌, length, take, drop, Some, None, Option, nat_lt, slice_index}
 use Rattle.std.specs.List.{flat_map}
 use Rattle.raise.specs.declared.LosingRange.{LosingRange}
 use Rattle.raise.specs.Rules.{pick, Rule}
+use Rattle.book.specs.Slots.{StoredBy}
+use Rattle.lowest.specs.Entries.{width as entry_width}
+use Rattle.lowest.specs.Table.{most_entries}
 
 -- how many words a range has
 abbrev pub width : ℕ
@@ -15,14 +18,17 @@ range_words r = r.first ∷ (r.last ∷ [])
 abbrev pub with_ranges : List ℕ → List LosingRange → List ℕ
 with_ranges ws rs = flat_map range_words rs ++ drop (width * length rs) ws
 
--- the words ws with a range as the i-th, if there is one, and how many ranges that is
+-- the words ws with the row, if there is one, as the i-th
 abbrev pub with_row : List ℕ → ℕ → Option LosingRange → List ℕ
 with_row ws i None = ws
 with_row ws i (Some r) = take (width * i) ws ++ (range_words r ++ drop (width * i + width) ws)
 
+-- how many rows that is
 abbrev pub how_many : Option LosingRange → ℕ
 how_many None = 0
 how_many (Some r) = 1
+
+-- ---- back from words
 
 -- the range that words hold, if they hold one: earnings have 32 bits
 abbrev pub read_range : List ℕ → Option LosingRange
@@ -33,10 +39,16 @@ pub record Fits (r : LosingRange) : Type 0 where
   pub first : r.first < 4294967296
   pub last : r.last < 4294967296
 
+-- its words read back as the range
+abbrev pub ReadsBack : Type 0
+ReadsBack = (r : LosingRange) → Fits r → read_range (range_words r) ≡ Some r
+
 -- each of many ranges reads back from its place in the words
-unfoldable pub Stored : List ℕ → List LosingRange → Type 0
-Stored ws rs = (i : ℕ) → i < length rs → read_range (take width (drop (width * i) ws)) ≡ slice_get rs i
+abbrev pub Stored : List ℕ → List LosingRange → Type 0
+Stored ws rs = StoredBy read_range width ws rs
+
+-- ---- room
 
 -- how many words are asked for to find rows: the table's, and those of as many ranges as there can be
 abbrev pub row_words : List Rule → ℕ
-row_words rs = 16 * length rs + 8
+row_words rs = entry_width * most_entries rs + width * most_entries rs

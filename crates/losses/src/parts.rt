@@ -1,25 +1,26 @@
 // The losing part of one segment: a run of grosses that touches one of its ends.
 ghost use Rattle.std.specs.Prelude.{◌≡◌, ◌<◌, ◌≤ℤ◌, ◌<ℤ◌, pos};
 ghost use Rattle.raise.specs.Lowest.{lower_than};
-ghost use Rattle.lowest.specs.Table.{SizedEntry};
+ghost use Rattle.lowest.specs.Table.{SizedEntry, loses_on};
 ghost use Rattle.losses.specs.Parts.{PartOf};
 
 use lowest::Entry;
 use raise::LosingRange;
 
-// Is less left of some gross beyond the segment than so much?
+// Is less than this left of some gross beyond the segment?
 fn lower_beyond(entry: Entry, net: i64) -> bool
     ensures { result ≡ lower_than entry.lowest_above net }
 {
     entry.lowest_above.is_some_and(|lowest| lowest < net)
 }
 
-// On a segment that falls everybody loses by the next unit, but who earns its last: that one by what lies beyond, if at all.
+// On a segment that falls everybody loses by the next unit, except whoever earns its last, who loses by what lies beyond, or not
+// at all.
 fn falling_part(entry: Entry) -> Option<LosingRange>
     requires sized { SizedEntry entry }
     requires some { entry.segment.from < entry.segment.to }
     requires falls { entry.segment.slope <ℤ pos 0 }
-    ensures { PartOf entry result }
+    ensures { PartOf (loses_on entry) entry.segment.from entry.segment.to result }
 {
     let segment = entry.segment;
     let last = segment.to - 1;
@@ -42,7 +43,7 @@ fn falling_part(entry: Entry) -> Option<LosingRange>
 fn rising_part(entry: Entry) -> Option<LosingRange>
     requires some { entry.segment.from < entry.segment.to }
     requires rises { pos 0 ≤ℤ entry.segment.slope }
-    ensures { PartOf entry result }
+    ensures { PartOf (loses_on entry) entry.segment.from entry.segment.to result }
 {
     let first = entry.segment.first_above(entry.lowest_above?)?;
     Some(LosingRange {
@@ -55,7 +56,7 @@ fn rising_part(entry: Entry) -> Option<LosingRange>
 pub(crate) fn losing_part(entry: Entry) -> Option<LosingRange>
     requires sized { SizedEntry entry }
     requires some { entry.segment.from < entry.segment.to }
-    ensures { PartOf entry result }
+    ensures { PartOf (loses_on entry) entry.segment.from entry.segment.to result }
 {
     if entry.segment.slope < 0 {
         falling_part(entry)

@@ -14,7 +14,7 @@ use book::Book;
 use lowest::{ENTRY_WORDS, read_entry, write_table};
 use raise::LosingRange;
 
-// The row that may go on and the part as one row, if there is such a row and nothing lies between.
+// The last row and the part as one, if there is such a row and nothing lies between.
 fn joined(last: Option<LosingRange>, part: LosingRange) -> Option<LosingRange>
     requires { IfSome last (λ row. row.last < part.first) }
     ensures { result ≡ joined last part }
@@ -39,9 +39,9 @@ fn put_row(ranges: &mut [u64], i: usize, row: Option<LosingRange>) -> usize
     i + 1
 }
 
-// The table of the book is read from its end, the first segment, on: the last row is written once the next part doesn't join it.
+// Reads the table backwards, so from the first segment on. The last row is written once the next part doesn't join it.
 #[tactic(auto, using(crate::proofs::Walk::room, crate::proofs::Walk::ends_few))]
-fn write_rows(book: &Book, table: &mut [u64], ranges: &mut [u64]) -> usize
+fn join_parts(book: &Book, table: &mut [u64], ranges: &mut [u64]) -> usize
     requires table { entry_width * most_entries book.now.rules ≤ length table.old }
     requires ranges { width * most_entries book.now.rules ≤ length ranges.old }
     ensures count { result ≡ length (losing_ranges book.now.rules book.now.bound) }
@@ -84,5 +84,5 @@ pub fn write_ranges(book: &Book, table: &mut [u64], ranges: &mut [u64]) -> usize
     ensures exact { LosingRanges book.now.rules book.now.bound (losing_ranges book.now.rules book.now.bound) }
     ensures only { (others : List LosingRange) → LosingRanges book.now.rules book.now.bound others → others ≡ losing_ranges book.now.rules book.now.bound }
 {
-    write_rows(book, table, ranges)
+    join_parts(book, table, ranges)
 }

@@ -1,6 +1,6 @@
 // A range in words, both ways.
-ghost use Rattle.std.specs.Prelude.{◌≡◌, ◌+◌, ◌*◌, ◌≤◌, ◌++◌, length, take, drop};
-ghost use Rattle.losses.specs.Words.{width, range_words, read_range};
+ghost use Rattle.std.specs.Prelude.{◌≡◌, ◌+◌, ◌*◌, ◌≤◌, length, Some};
+ghost use Rattle.losses.specs.Words.{width, with_row, read_range, ReadsBack};
 
 use raise::LosingRange;
 
@@ -10,15 +10,17 @@ pub const RANGE_WORDS: usize = 2;
 // The i-th range, written.
 pub(crate) fn put_range(words: &mut [u64], i: usize, range: LosingRange)
     requires { width * i + width ≤ length words.old }
-    ensures { words.new ≡ take (width * i) words.old ++ (range_words range ++ drop (width * i + width) words.old) }
+    ensures { words.new ≡ with_row words.old i (Some range) }
 {
     let at = RANGE_WORDS * i;
     words[at..at + RANGE_WORDS].copy_from_slice(&[range.first.into(), range.last.into()]);
 }
 
-// The range that words hold, if they hold one.
+// The range that words hold, if they hold one. What was written is read back.
+#[tactic(auto, using(crate::proofs::Slots::reads_back))]
 pub fn read_range(words: &[u64; RANGE_WORDS]) -> Option<LosingRange>
-    ensures { result ≡ read_range words.now }
+    ensures range { result ≡ read_range words.now }
+    ensures back { ReadsBack }
 {
     let [first, last] = *words;
     Some(LosingRange {

@@ -1,5 +1,5 @@
 -- What holds of each element of a list, of the list turned round, and of another made from it.
-use Rattle.std.proofs.Common.{ℕ, zero, suc, ◌<◌, List, [], ◌∷◌, ◌++◌, map, reverse, length, get_or, arith}
+use Rattle.std.proofs.Common.{List, [], ◌∷◌, ◌++◌, map, reverse}
 use Rattle.std.specs.List.{AllByRecursion}
 use Rattle.std.proofs.lemmas.Grind.{reverse_onto}
 

@@ -8,7 +8,7 @@ use Rattle.std.proofs.lemmas.List.{map-id}
 use Rattle.std.proofs.lemmas.Bool.{cases_Bool, and_parts, leb-true, ltb-true}
 use Rattle.raise.specs.Rules.{Rule, loses}
 use Rattle.raise.specs.Net.{net, on_line}
-use Rattle.raise.specs.Lowest.{least_over, lowest_from, Lowest, loses_at}
+use Rattle.raise.specs.Lowest.{least_over, lowest_from, Lowest}
 use Rattle.raise.proofs.Lows.{lowest_is, only, loses_on_a_line}
 use Rattle.book.specs.Held.{Within}
 use Rattle.segments.specs.declared.lines.Segment.{Segment}
@@ -17,7 +17,7 @@ use Rattle.segments.proofs.Paces.{net_small}
 use Rattle.segments.proofs.Cover.{segment_line, each, each_sized, segments_cover}
 use Rattle.lowest.specs.declared.entries.Entry.{Entry}
 use Rattle.lowest.specs.Entries.{Fits}
-use Rattle.lowest.specs.Table.{entry, table, EntryOf, TableOf, IsTable, SizedEntry, loses_by, TableTells}
+use Rattle.lowest.specs.Table.{entry, table, EntryOf, TableOf, IsTable, SizedEntry, loses_on, loses_by, TableTells}
 use Rattle.lowest.proofs.Lists.{all_back, all_map, all_both}
 
 -- ---- the lowest beyond
@@ -72,8 +72,7 @@ many_back [] g = refl
 many_back (s ∷ ss) g = let i = many_back ss g in let j = many_joined (reverse ss) (s ∷ []) g in rw (reverse_onto ss s []) (omega (arith, i, j))
 
 -- on the segment of an entry
-pub by_entry : (rs : List Rule) (b : ℕ) (e : Entry) → EntryOf rs b e → (g : ℕ) → e.segment.from ≤ g → g < e.segment.to →
-    loses rs b g ≡ loses_at e.segment.from e.segment.to e.segment.net e.segment.slope e.lowest_above g
+pub by_entry : (rs : List Rule) (b : ℕ) (e : Entry) → EntryOf rs b e → (g : ℕ) → e.segment.from ≤ g → g < e.segment.to → loses rs b g ≡ loses_on e g
 by_entry rs b e i g lo hi =
     let s = e.segment in
     let l = loses_on_a_line rs b s.from s.to s.net s.slope (segment_line rs b s i.segment) g lo hi in

@@ -18,7 +18,8 @@ use Rattle.lowest.specs.Below.{greatest_below, breakpoint_below}
 use Rattle.lowest.specs.Entries.{width, entry_words, table_words}
 use Rattle.lowest.specs.Table.{entry, table, most_entries}
 use Rattle.lowest.proofs.Points.{Stands, Below, is_below, by_no_rule}
-use Rattle.lowest.proofs.Words.{one_entry}
+use Rattle.book.proofs.Places.{one_written}
+use Rattle.lowest.proofs.Words.{entry_long}
 
 module _ (rs : List Rule) (b : ℕ) where
   -- the entries of all segments from x on, the last first
@@ -105,7 +106,7 @@ module _ {rs : List Rule} {b : ℕ} {ws : List ℕ} {x count : ℕ} {m : Option 
     module _ (vs : List ℕ) (put : vs ≡ take (width * count) us ++ (entry_words added ++ drop (width * count + width) us)) where
       pub written : vs ≡ table_words (entries_from rs b y) ++ drop (width * (count + 1)) ws
       written =
-          let w = one_entry (entries_from rs b x) added ws us (rw (← a.counted) a.written) in
+          let w = one_written entry_words width entry_long (entries_from rs b x) added ws us (rw (← a.counted) a.written) in
           rw (longer, a.counted) (rw a.counted at put ∙ w)
 
       pub goes_on : (low : ℤ) → (y ≡ 0 → ⊥) → low ≡ lowest_with s.from s.to s.net s.slope m → At rs b ws y (count + 1) (Some low) vs

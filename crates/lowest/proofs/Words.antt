@@ -1,11 +1,11 @@
--- Entries in words: how many these are, one entry more behind others, and what reads back.
-use Rattle.std.proofs.Common.{◌≡◌, ℕ, ◌≤◌, ◌-◌, ◌+◌, ◌*◌, true, ltb, List, [], ◌∷◌, ◌++◌, length, take, drop, ℤ, Some, None, Option, refl, ap, ◌∙◌, append_assoc, w64, arith}
+-- Entries in words: how many these are, and what reads back.
+use Rattle.std.proofs.Common.{◌≡◌, ℕ, ◌≤◌, ◌-◌, ◌*◌, true, ltb, List, ◌++◌, length, take, drop, ℤ, Some, None, Option, refl, ap, ◌∙◌, append_assoc, w64, arith}
 use borrow.Rule.Slice.PartMut.{put_mid}
 use Rattle.std.specs.List.{AllByRecursion}
 use Rattle.std.proofs.lemmas.Int.{to_z-of_z}
 use Rattle.std.proofs.lemmas.List.{drop_at, length-take-le}
 use Rattle.std.proofs.lemmas.Bool.{lt-ltb}
-use Rattle.book.proofs.Places.{joined_long, slots_read, one_written}
+use Rattle.book.proofs.Places.{joined_long, slots_read}
 use Rattle.segments.specs.declared.lines.Segment.{Segment}
 use Rattle.lowest.specs.declared.entries.Entry.{Entry}
 use Rattle.lowest.specs.Entries.{width, lowest_words, entry_words, table_words, read_entry, Fits, ReadsBack}
@@ -15,16 +15,11 @@ lowest_long : (m : Option ℤ) → length (lowest_words m) ≡ 2
 lowest_long None = refl
 lowest_long (Some m) = refl
 
-entry_long : (e : Entry) → length (entry_words e) ≡ width
+pub entry_long : (e : Entry) → length (entry_words e) ≡ width
 entry_long e = omega (arith, lowest_long e.lowest_above)
 
 pub table_long : (es : List Entry) → length (table_words es) ≡ width * length es
 table_long es = joined_long entry_words width entry_long es
-
--- one entry more behind those that were written
-pub one_entry : (es : List Entry) (e : Entry) (ws us : List ℕ) → us ≡ table_words es ++ drop (width * length es) ws →
-    take (width * length es) us ++ (entry_words e ++ drop (width * length es + width) us) ≡ table_words (es ++ (e ∷ [])) ++ drop (width * (length es + 1)) ws
-one_entry es e ws us h = one_written entry_words width entry_long es e ws us h
 
 -- ---- back from words
 
@@ -41,13 +36,8 @@ back s (Some m) f =
 pub reads_back : ReadsBack
 reads_back e f = back e.segment e.lowest_above f
 
-each_back : (es : List Entry) → AllByRecursion Fits es → AllByRecursion (λ e. read_entry (entry_words e) ≡ Some e) es
-each_back [] a = tt
-each_back (e ∷ es) a = (reads_back e a.0, each_back es a.1)
-
 stored : (es : List Entry) (ys : List ℕ) → AllByRecursion Fits es → Stored (table_words es ++ ys) es
-unfolding Stored
-stored es ys a i l = slots_read entry_words width entry_long read_entry es ys (each_back es a) i l
+stored es ys a = slots_read entry_words width entry_long read_entry Fits reads_back es ys a
 
 -- in the part of ws from its k-th word on that us was written to
 pub stored_at : (k : ℕ) (ws us vs : List ℕ) (es : List Entry) → k ≤ length ws → us ≡ table_words es ++ vs → AllByRecursion Fits es → Stored (drop k (put_mid k (length ws - k) ws us)) es

@@ -1,9 +1,10 @@
 -- The table: each segment of a book with the lowest net beyond it, from the last down to the first. Nothing is assumed.
-use Rattle.std.specs.Prelude.{◌≡◌, ℕ, suc, ◌+◌, ◌*◌, ◌<◌, ◌≤◌, Bool, false, ◌↔◌, List, [], ◌∷◌, ◌++◌, map, reverse, length, take, drop, None, IfSome, slice_get, unsigned_abs}
+use Rattle.std.specs.Prelude.{◌≡◌, ℕ, suc, ◌+◌, ◌*◌, ◌≤◌, Bool, false, ◌↔◌, List, [], ◌∷◌, ◌++◌, map, reverse, length, take, drop, None, IfSome, unsigned_abs}
 use Rattle.std.specs.List.{AllByRecursion}
 use Rattle.raise.specs.Rules.{pick, Rule, loses}
 use Rattle.raise.specs.Net.{net}
 use Rattle.raise.specs.Lowest.{lowest_from, Lowest, loses_at}
+use Rattle.book.specs.Slots.{StoredBy}
 use Rattle.segments.specs.declared.lines.Segment.{Segment}
 use Rattle.segments.specs.Segments.{segments, on, SegmentOf, Sized}
 use Rattle.lowest.specs.declared.entries.Entry.{Entry}
@@ -50,10 +51,14 @@ pub record SizedEntry (e : Entry) : Type 0 where
 
 -- ---- who loses, by the table alone
 
+-- does g on the segment of an entry lose
+abbrev pub loses_on : Entry → ℕ → Bool
+loses_on e g = loses_at e.segment.from e.segment.to e.segment.net e.segment.slope e.lowest_above g
+
 -- by the entry on whose segment g lies
 unfoldable pub loses_by : List Entry → ℕ → Bool
 loses_by [] g = false
-loses_by (e ∷ es) g = pick (on e.segment g) (loses_at e.segment.from e.segment.to e.segment.net e.segment.slope e.lowest_above g) (loses_by es g)
+loses_by (e ∷ es) g = pick (on e.segment g) (loses_on e g) (loses_by es g)
 
 -- any table of a book tells of every earning up to the bound whether it loses
 abbrev pub TableTells : Type 0
@@ -62,5 +67,5 @@ TableTells = (rs : List Rule) (b : ℕ) (es : List Entry) → TableOf rs b es �
 -- ---- in words
 
 -- each entry of a table reads back from its place in the words
-unfoldable pub Stored : List ℕ → List Entry → Type 0
-Stored ws es = (i : ℕ) → i < length es → read_entry (take width (drop (width * i) ws)) ≡ slice_get es i
+abbrev pub Stored : List ℕ → List Entry → Type 0
+Stored ws es = StoredBy read_entry width ws es

@@ -7,4 +7,4 @@ mod entries;
 mod table;
 
 pub use entries::{ENTRY_WORDS, Entry, read_entry};
-pub use table::{words_for, write_table};
+pub use table::{most_entries, words_for, write_table};

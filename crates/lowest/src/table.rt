@@ -58,12 +58,20 @@ fn write_entries(part: &mut [u64], book: &Book) -> usize
     count
 }
 
+// How many segments a book has at most, and so how many entries its table has.
+pub fn most_entries(book: &Book) -> usize
+    ensures value { result ≡ most_entries book.now.rules }
+    ensures few { result ≤ 129 }
+{
+    2 * book.rules().len() + 1
+}
+
 // How many words the table of a book asks for at most.
 pub fn words_for(book: &Book) -> usize
     ensures value { result ≡ width * most_entries book.now.rules }
     ensures few { result ≤ 774 }
 {
-    ENTRY_WORDS * (2 * book.rules().len() + 1)
+    ENTRY_WORDS * most_entries(book)
 }
 
 // The table of the book, in a part of the words that begins at the `at`-th, and how many entries it has: the segments of the book

@@ -77,7 +77,7 @@ only_ranges test e rs ss i j = only 0 rs ss i.apart j.apart (λ g lo. i.exact g 
 -- ---- trying finds them
 
 -- the ranges of [x, e)
-record Found (test : ℕ → Bool) (x e : ℕ) (rs : List LosingRange) : Type 0 where
+pub record Found (test : ℕ → Bool) (x e : ℕ) (rs : List LosingRange) : Type 0 where
   pub apart : Apart x rs
   pub exact : (g : ℕ) → x ≤ g → lies_in_one rs g ≡ (ltb g e && test g)
 
@@ -176,23 +176,23 @@ first_from x (r ∷ rs) g a =
       | inr u ↦ rw u (later x r rs a g (leb-false _ _ u) (range_from rs g) (first_from (r.last + 2) rs g a.2))
     ]
 
-module _ (rs : List Rule) (b g : ℕ) (ranges : List LosingRange) (i : LosingRanges rs b ranges) where
-  -- up to b, who lies in one of the ranges loses, and who doesn't does not
-  told_by : (k : ℕ) → k ≤ b → loses rs b k ≡ lies_in_one ranges k
-  told_by k le = let t : ltb k (suc b) ≡ true = lt-ltb _ _ (omega arith) in sym (i.exact k ∙ rw t refl)
+-- if of the earnings from g on those lie in the ranges who lose
+module _ (rs : List Rule) (b g : ℕ) (ranges : List LosingRange) (exact : (k : ℕ) → g ≤ k → lies_in_one ranges k ≡ (ltb k (suc b) && loses rs b k)) where
+  told_by : (k : ℕ) → g ≤ k → k ≤ b → loses rs b k ≡ lies_in_one ranges k
+  told_by k lo hi = let t : ltb k (suc b) ≡ true = lt-ltb _ _ (omega arith) in sym (exact k lo ∙ rw t refl)
 
-  below : (k : ℕ) → lies_in_one ranges k ≡ true → k < b
-  below k t =
-      let p = and_parts (ltb k (suc b)) (loses rs b k) (sym (i.exact k) ∙ t) in
+  below : (k : ℕ) → g ≤ k → lies_in_one ranges k ≡ true → k < b
+  below k lo t =
+      let p = and_parts (ltb k (suc b)) (loses rs b k) (sym (exact k lo) ∙ t) in
       elim (cases_eq k b) [
         | inl same ↦ absurd (both_ways (loses rs b b) (at_bound rs b) (rw same at p.1))
         | inr other ↦ omega (arith, ltb-true _ _ p.0)
       ]
 
   row_of_first : (o : Option LosingRange) → First ranges g o → RowTold rs b g (row_told o)
-  row_of_first None f = inl (refl, λ k lo hi. told_by k hi ∙ f k lo)
+  row_of_first None f = inl (refl, λ k lo hi. told_by k lo hi ∙ f k lo)
   row_of_first (Some r) f =
-      let lt = below r.last (f.2 r.last f.1 (omega arith)) in
+      let lt = below r.last (omega (arith, f.0, f.1)) (f.2 r.last f.1 (omega arith)) in
       inr (
         r.first,
         r.last,
@@ -201,9 +201,9 @@ module _ (rs : List Rule) (b g : ℕ) (ranges : List LosingRange) (i : LosingRan
           from_asked = f.0;
           in_order = f.1;
           below_bound = lt;
-          all_lose = λ k lo hi. told_by k (omega (arith, lt)) ∙ f.2 k lo hi;
-          none_before = λ k lo hi. told_by k (omega (arith, lt, f.1)) ∙ f.3 k lo hi;
-          not_after = told_by (suc r.last) lt ∙ f.4;
+          all_lose = λ k lo hi. told_by k (omega (arith, lo, f.0)) (omega (arith, lt, hi)) ∙ f.2 k lo hi;
+          none_before = λ k lo hi. told_by k lo (omega (arith, lt, f.1, hi)) ∙ f.3 k lo hi;
+          not_after = told_by (suc r.last) (omega (arith, f.0, f.1)) lt ∙ f.4;
         },
       )
 
@@ -224,5 +224,35 @@ one_row rs b g a c (inr (p, q, e, i)) (inr (s, t, f, j)) =
     let v : q ≡ t = omega (arith, no_longer rs b g p q s t i j, no_longer rs b g s t p q j i) in
     e ∙ ap (λ (n : ℕ). two (suc n) (suc q)) u ∙ ap (λ (n : ℕ). two (suc s) (suc n)) v ∙ sym f
 
-pub row_is_first : (l : Limits) (rs : List Rule) (ranges : List LosingRange) → LosingRanges rs l.bound ranges → (g : ℕ) → row_told (range_from ranges g) ≡ told l rs (next_row g)
-row_is_first l rs ranges i g = one_row rs l.bound g _ _ (row_of_first rs l.bound g ranges i (range_from ranges g) (first_from 0 ranges g i.apart)) (rows l rs g)
+module _ (l : Limits) (rs : List Rule) (g : ℕ) where
+  abbrev pub From : ℕ → List LosingRange → Type 0
+  From x ranges = Found (loses rs l.bound) x (suc l.bound) ranges
+
+  told_first : (ranges : List LosingRange) → ((k : ℕ) → g ≤ k → lies_in_one ranges k ≡ (ltb k (suc l.bound) && loses rs l.bound k)) → (o : Option LosingRange) → First ranges g o →
+      row_told o ≡ told l rs (next_row g)
+  told_first ranges exact o f = one_row rs l.bound g _ _ (row_of_first rs l.bound g ranges exact o f) (rows l rs g)
+
+  pub row_is_first : (ranges : List LosingRange) → LosingRanges rs l.bound ranges → row_told (range_from ranges g) ≡ told l rs (next_row g)
+  row_is_first ranges i = told_first ranges (λ k lo. i.exact k) (range_from ranges g) (first_from 0 ranges g i.apart)
+
+  -- of ranges from g on the first is told, and the others are those from one past its last on
+  pub none_told : From g [] → told l rs (next_row g) ≡ row_told None
+  unfolding lies_in_one
+  none_told i = sym (told_first [] i.exact None (λ k lo. refl))
+
+  module _ (r : LosingRange) (ranges : List LosingRange) (i : From g (r ∷ ranges)) where
+    pub first_told : told l rs (next_row g) ≡ row_told (Some r)
+    unfolding Apart
+    first_told = sym (told_first (r ∷ ranges) i.exact (Some r) (i.apart.0, i.apart.1, within g r ranges i.apart, λ k lo hi. earlier g r ranges i.apart k hi, just_after g r ranges i.apart))
+
+    pub first_below : r.last < l.bound
+    unfolding Apart
+    first_below = below rs l.bound g (r ∷ ranges) i.exact r.last (omega (arith, i.apart.0, i.apart.1)) (within g r ranges i.apart r.last i.apart.1 (omega arith))
+
+    pub others : From (suc r.last) ranges
+    unfolding Apart
+    others =
+        record {
+          apart = apart_from (suc r.last) (r.last + 2) ranges (omega arith) i.apart.2;
+          exact = λ k lo. sym (after g r ranges i.apart k lo) ∙ i.exact k (omega (arith, lo, i.apart.0, i.apart.1));
+        }

@@ -58,8 +58,8 @@ pub fn rows()
     ensures only { (rs : List Rule) (b g : ℕ) (a c : Answer) → RowTold rs b g a → RowTold rs b g c → a ≡ c }
 {}
 
-// The ranges that are found by trying every earning are all those of who loses, each as long as can be, and no other list is. The
-// answered row is the first of them from the asked earning on.
+// The ranges that are found by trying every earning are those of all who lose, each as long as can be, and no other list is. The
+// answered row is the first of them from the asked earning on, less what lies before it.
 pub fn losing_ranges()
     ensures exact { (rs : List Rule) (b : ℕ) → LosingRanges rs b (losing_ranges rs b) }
     ensures only { (rs : List Rule) (b : ℕ) (ranges : List LosingRange) → LosingRanges rs b ranges → ranges ≡ losing_ranges rs b }

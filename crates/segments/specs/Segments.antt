@@ -22,8 +22,8 @@ pub record Sized (s : Segment) : Type 0 where
   pub net : (g : ℕ) → s.from ≤ g → g < s.to → unsigned_abs (on_line s.from s.net s.slope g) ≤ 1290000000000000
   pub slope : unsigned_abs s.slope ≤ 1290000
 
--- the first earning of which more is left than m, on a segment that doesn't fall: of it and all after it more is, of none before
--- it; and where there is no such earning on the segment, none
+-- the first earning of which more is left than m, on a segment that doesn't fall: of it and all after it on the segment more is,
+-- of none before it; and where there is no such earning, none
 abbrev pub FirstAbove : Segment → ℤ → Option ℕ → Type 0
 FirstAbove s m None = (g : ℕ) → s.from ≤ g → g < s.to → int_lt m (on_line s.from s.net s.slope g) ≡ false
 FirstAbove s m (Some x) = (s.from ≤ x) × (x < s.to) × ((g : ℕ) → s.from ≤ g → g < s.to → int_lt m (on_line s.from s.net s.slope g) ≡ nat_le x g)

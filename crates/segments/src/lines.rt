@@ -34,7 +34,8 @@ impl Segment {
         self.net + self.slope * i64::from(gross - self.from)
     }
 
-    // The first gross on a segment that doesn't fall of which more is left than so much, if there is one; of all after it, too.
+    // The first gross on a segment that doesn't fall of which more is left than so much, if there is one; and of all after it on the
+    // segment.
     #[tactic(auto, using(crate::proofs::Above::found_above, crate::proofs::Above::none_above))]
     pub fn first_above(self, level: i64) -> Option<u32>
         requires some { self.from < self.to }
@@ -44,7 +45,7 @@ impl Segment {
         if level < self.net {
             return Some(self.from);
         }
-        // Natural numbers, so that nothing is asked of sizes.
+        // Unsigned, so that no size is asked for: any two levels have a difference, and a sum too large is past every `to`.
         let steps = level
             .abs_diff(self.net)
             .checked_div(self.slope.unsigned_abs())?;

@@ -1,5 +1,6 @@
+pub mod Steps
+pub mod Rows
 pub mod Runs
 pub mod Nothing
 pub mod OnBytes
 pub mod Scratch
-pub mod Rows

@@ -19,7 +19,8 @@ use Rattle.book.proofs.Laws.{image_long, image_below, good_within}
 use Rattle.book.proofs.Sums.{amounts_fit}
 use Rattle.session.specs.Memory.{opening, open_words, empty, limits, says_words, next_words, told_words, left_words}
 use Rattle.session.specs.Bytes.{told_bytes, left_bytes, RightBytes, ReadBackBytes, RefusalKeepsBytes, EnoughMemoryBytes}
-use Rattle.session.proofs.Runs.{book_after, book_ran, good_after, good_ran, good_empty, left_behind, keeps_later, accepted, told_opened, same_limits}
+use Rattle.session.proofs.Steps.{book_after, book_ran}
+use Rattle.session.proofs.Runs.{good_after, good_ran, good_empty, left_behind, keeps_later, accepted, told_opened, same_limits}
 
 told_as_bytes : (ws : List ℕ) (bss : List (List ℕ)) → told_bytes ws bss ≡ map answer_bytes (told_words ws (map call_of bss))
 unfolding told_bytes told_words

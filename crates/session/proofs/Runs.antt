@@ -1,39 +1,17 @@
 -- Whole sessions: what the contracts of open and call say of one step, over every list of calls.
 use Rattle.std.proofs.Common.{◌≡◌, ℕ, zero, suc, ◌+◌, ◌*◌, ◌<◌, ◌≤◌, Bool, true, false, eqb, ltb, List, [], ◌∷◌, ◌++◌, length, drop, replicate, sym, refl, ap, ◌∙◌, subst, inl, inr, arith}
 use Rattle.std.proofs.lemmas.List.{append-nil, drop_at, drop_all, length-replicate}
-use Rattle.std.proofs.lemmas.Bool.{cases_Bool, le-ltb, ltb-false, ne_eqb}
+use Rattle.std.proofs.lemmas.Bool.{cases_Bool, le-ltb, ltb-false}
 use Rattle.std.proofs.lemmas.Bool.Decides.{nat_tests}
 use Rattle.raise.specs.Rules.{Rule}
-use Rattle.raise.specs.Calls.{Call, Answer, Limits, lays, lifts, left_of, next_row, safe, garbled, number, fine, turned, changed, after, told, row_from, answer, answers}
+use Rattle.raise.specs.Calls.{Call, Answer, Limits, lays, lifts, left_of, next_row, safe, garbled, number, fine, turned, changed, told, row_from, answer, answers}
 use Rattle.raise.specs.Promise.{Memory, GoodLimits, told_by, left_by, ran, thin, all_below, Right, RefusalKeeps, EnoughMemory}
 use Rattle.book.specs.Held.{Book, Good, asked, image, with_rules, all_fine}
-use Rattle.book.proofs.Laws.{good_laid, good_lifted, image_reads, image_long, image_below}
-use Rattle.session.specs.Memory.{limited, opening, empty, open_words, opened_words, limits, says_in, next_in, says_words, next_words, desk, told_words, left_words, is_three, unless_refused, Serves, Opened, Suffices}
-
--- ---- one call, on the image of a book with anything behind it
-
--- the book after a call, and after a list of calls
-abbrev pub book_after : Book → Call → Book
-book_after b c = with_rules b (after (limits b) b.rules c)
-
-abbrev pub book_ran : Book → List Call → Book
-book_ran b cs = with_rules b (ran (limits b) b.rules cs)
-
-pub next_behind : (b : Book) (ys : List ℕ) (c : Call) → Good b → next_words (image b ++ ys) c ≡ image (book_after b c) ++ ys
-next_behind b ys c g =
-    let d : drop (asked b.limit) (image b ++ ys) ≡ ys = drop_at (image b) ys (asked b.limit) (image_long b g) in
-    ap (next_in (image b ++ ys) c) (image_reads b ys g) ∙
-    elim (cases_Bool (eqb (turned (limits b) b.rules c) 0)) [ inl t ↦ rw (t, d) refl | inr t ↦ rw t refl ]
-
-pub says_behind : (b : Book) (ys : List ℕ) (c : Call) → Good b → says_words (image b ++ ys) c ≡ answer (limits b) b.rules c
-says_behind b ys c g = ap (says_in c) (image_reads b ys g)
-
--- a call that is turned away leaves the rules
-kept_rules : (l : Limits) (rs : List Rule) (c : Call) → 0 < turned l rs c → after l rs c ≡ rs
-kept_rules l rs c h = let t : eqb (turned l rs c) 0 ≡ false = ne_eqb (turned l rs c) 0 (λ e. omega arith) in rw t refl
-
-keeps_behind : (b : Book) (ys : List ℕ) (c : Call) → Good b → 0 < turned (limits b) b.rules c → next_words (image b ++ ys) c ≡ image b ++ ys
-keeps_behind b ys c g h = next_behind b ys c g ∙ ap (λ (rs : List Rule). image (with_rules b rs) ++ ys) (kept_rules (limits b) b.rules c h)
+use Rattle.book.proofs.Laws.{good_laid, good_lifted, image_long, image_below}
+use Rattle.session.proofs.Steps.{book_after, book_ran, next_behind, says_behind, keeps_behind}
+use Rattle.session.proofs.Rows.{tells_all}
+use Rattle.session.specs.Rows.{AllRows}
+use Rattle.session.specs.Memory.{limited, opening, empty, open_words, opened_words, limits, says_words, next_words, desk, told_words, left_words, is_three, unless_refused, Serves, Opened, Suffices}
 
 -- ---- a good book stays good
 
@@ -121,6 +99,7 @@ serves ws rules bound few low =
     let ys = drop (asked rules) ws in
     record {
       right = λ cs. told_behind b ys cs g;
+      rows = λ cs. rw (left_behind b ys cs g) (tells_all (book_ran b cs) ys (good_ran b cs g));
       no_three = λ cs c. ap (λ (us : List ℕ). is_three (says_words us c)) (left_behind b ys cs g) ∙ ap is_three (says_behind (book_ran b cs) ys c (good_ran b cs g)) ∙ answer_not_three (limits b) (ran l [] cs) c;
       keeps = λ cs c h. keeps_later b ys cs c g h;
       behind = λ cs. ap (drop (asked rules)) (left_behind b ys cs g) ∙ drop_at (image (book_ran b cs)) ys (asked rules) (image_long (book_ran b cs) (good_ran b cs g));
@@ -191,7 +170,7 @@ right l cs h e r =
     told_desk (opened_words l) cs ∙ ap (λ (ws : List ℕ). told_words ws cs) (opened_image l h) ∙
     told_behind (empty l) [] cs (good_empty l h) ∙ ap (λ (m : Limits). answers m [] cs) (same_limits l e)
 
-pub left_opened : (l : Limits) (cs : List Call) → GoodLimits l → left_by desk (desk.opened l) cs ≡ record { words = left_words (image (empty l) ++ []) cs }
+left_opened : (l : Limits) (cs : List Call) → GoodLimits l → left_by desk (desk.opened l) cs ≡ record { words = left_words (image (empty l) ++ []) cs }
 left_opened l cs h = left_desk (opened_words l) cs ∙ ap (λ (ws : List ℕ). record { words = left_words ws cs }) (opened_image l h)
 
 pub refusal_keeps : RefusalKeeps thin desk
@@ -199,6 +178,13 @@ refusal_keeps l cs c h e r t =
     let d = left_opened l cs h in
     let u : 0 < turned (limits (empty l)) (ran (limits (empty l)) [] cs) c = rw (same_limits l e) t in
     ap (λ (m : Memory). desk.next m c) d ∙ ap (λ (ws : List ℕ). record { words = ws }) (keeps_later (empty l) [] cs c (good_empty l h) u) ∙ sym d
+
+pub all_rows : AllRows thin desk
+all_rows l cs h e r =
+    let b = book_ran (empty l) cs in
+    let d = left_opened l cs h ∙ ap (λ (ws : List ℕ). record { words = ws }) (left_behind (empty l) [] cs (good_empty l h)) in
+    let z : ran (limits (empty l)) [] cs ≡ ran l [] cs = ap (λ (k : Limits). ran k [] cs) (same_limits l e) in
+    rw (d, ← z) (tells_all b [] (good_ran (empty l) cs (good_empty l h)))
 
 pub enough_memory : EnoughMemory desk
 enough_memory l cs h r =

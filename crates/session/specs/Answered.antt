@@ -29,7 +29,7 @@ abbrev pub Answered : Call → Book → Book → Result Answer Refusal → Type 
 Answered c old new (Ok a) = Accepted c old new (says a)
 Answered c old new (Err e) = TurnedAway c old new (refused (refusal_number e) (refusal_place e))
 
--- a list of words is what it was, if a call was turned away
+-- words are as they were, if a call was turned away
 abbrev pub KeptIfRefused : Result Answer Refusal → List ℕ → List ℕ → Type 0
 KeptIfRefused (Ok a) old new = Unit {0}
 KeptIfRefused (Err e) old new = new ≡ old

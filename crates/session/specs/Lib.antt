@@ -1,4 +1,4 @@
+pub mod Rows
 pub mod Memory
 pub mod Bytes
 pub mod Answered
-pub mod Rows

@@ -1,25 +1,22 @@
 -- All rows of a book, told by asking for one after the other. Nothing is assumed.
-use Rattle.std.specs.Prelude.{◌≡◌, ℕ, zero, suc, Bool, true, List, [], ◌∷◌}
+use Rattle.std.specs.Prelude.{◌≡◌, ℕ, suc, Bool, true, List, [], ◌∷◌, Some, None}
 use Rattle.raise.specs.declared.LosingRange.{LosingRange}
-use Rattle.raise.specs.Calls.{Call, Answer, Limits, next_row, refused, number, two}
+use Rattle.raise.specs.Calls.{Call, Limits, next_row}
+use Rattle.raise.specs.Rules.{Rule}
 use Rattle.raise.specs.Promise.{Memory, Desk, GoodLimits, all_readable, left_by, ran}
 use Rattle.raise.specs.Ranges.{LosingRanges}
+use Rattle.raise.specs.Told.{row_told}
 
--- the row that an answer tells, if it tells one, and after it those that follow its last
-abbrev pub row_and : Answer → (ℕ → List LosingRange) → List LosingRange
-row_and (refused k n) later = []
-row_and (number n) later = []
-row_and (two zero n) later = []
-row_and (two (suc first) zero) later = []
-row_and (two (suc first) (suc last)) later = record { first = first; last = last } ∷ later last
-
--- asked from g on, and then from one past each row's last on, until no row is told: n times at most
-unfoldable pub rows_told : Desk → Memory → ℕ → ℕ → List LosingRange
-rows_told d m zero g = []
-rows_told d m (suc n) g = row_and (d.says m (next_row g)) (λ last. rows_told d (d.next m (next_row g)) n (suc last))
+-- asked from g on, and then from one past each row's last on, a desk tells just these rows, and then that there is none
+unfoldable pub TellsRows : Desk → Memory → ℕ → List LosingRange → Type 0
+TellsRows d m g [] = d.says m (next_row g) ≡ row_told None
+TellsRows d m g (r ∷ rows) = (d.says m (next_row g) ≡ row_told (Some r)) × TellsRows d (d.next m (next_row g)) (suc r.last) rows
 
 -- Of all earnings up to a bound of a billion, the rows of those at which somebody loses by earning more, each from its first to
--- its last, with none between them and none left out: so told after any list of calls, for the rules that were laid by then
-unfoldable pub AllRows : (ℕ → Bool) → Desk → Type 0
-AllRows can d = (l : Limits) (cs : List Call) → GoodLimits l → l.rules_can ≡ can → all_readable cs ≡ true →
-    LosingRanges (ran l [] cs) l.bound (rows_told d (left_by d (d.opened l) cs) (suc l.bound) 0)
+-- its last, with none between them and none left out
+unfoldable pub TellsAllRows : Desk → Memory → List Rule → ℕ → Type 0
+TellsAllRows d m rs b = (rows : List LosingRange) × LosingRanges rs b rows × TellsRows d m 0 rows
+
+-- so told after any list of calls, of the rules that the book then has
+abbrev pub AllRows : (ℕ → Bool) → Desk → Type 0
+AllRows can d = (l : Limits) (cs : List Call) → GoodLimits l → l.rules_can ≡ can → all_readable cs ≡ true → TellsAllRows d (left_by d (d.opened l) cs) (ran l [] cs) l.bound

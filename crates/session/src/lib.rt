@@ -50,9 +50,9 @@ pub fn open(words: &mut [u64], rules: u32, bound: u32) -> Result<(), Refusal>
 }
 
 // Answers the call that the bytes are. For every list of calls the answers are those of the written book, a call that
-// is turned away changes nothing, and memory stays within what is asked for. Asked for one after the other, the rows are those of
-// all earnings up to the bound at which somebody loses by earning more, from the first to the last, none left out.
-#[tactic(auto, using(crate::proofs::Runs::right, crate::proofs::Runs::refusal_keeps, crate::proofs::Rows::all_rows, crate::proofs::Nothing::all_plain, crate::proofs::Nothing::nothing_laid))]
+// is turned away changes nothing, and memory stays within what is asked for. Asked for one after the other, the rows that are told
+// are those of all earnings up to the bound at which somebody loses by earning more, from the first to the last, none left out.
+#[tactic(auto, using(crate::proofs::Runs::right, crate::proofs::Runs::refusal_keeps, crate::proofs::Runs::all_rows, crate::proofs::Nothing::all_plain, crate::proofs::Nothing::nothing_laid))]
 pub fn call(words: &mut [u64], bytes: &[u8]) -> Answer
     ensures said { says result ≡ says_words words.old (call_of bytes.now) }
     ensures words { words.new ≡ next_words words.old (call_of bytes.now) }

@@ -114,7 +114,7 @@ fn tell_safe(book: &Book, gross: u32) -> Result<Answer, Refusal>
     Ok(place_answer(safe_from(book, gross)))
 }
 
-// The answer to a call on a book, and the book after it. A call that is turned away leaves the scratch, too.
+// The answer to a call on a book, and the book after it. A call that is turned away leaves the scratch as it was, too.
 fn answer_to(book: &mut Book, scratch: &mut [u64], call: Call) -> Result<Answer, Refusal>
     requires { row_words book.old.rules ≤ length scratch.old }
     ensures answered { Answered (asks call) book.old book.new result }

@@ -8,16 +8,16 @@ loop-words-init c = λ ranges e. refl
 pub returns-in_err-read_range : goal.returns-in_err-read_range
 returns-in_err-read_range c = λ ranges n s.
     let e = all_read c.args.words.now c.args.count c.as_chunks.result.0.now ranges c.requires (search rules) n s in
-    absurd (readable _ c.loop-words.words-index c.args.gross c.loop-words.invariant _ (search rules) ranges e c.in_err-read_range.ensures)
+    absurd (readable _ c.loop-words.words-index c.args.gross c.loop-words.invariant _ (search rules) ranges e c.in_err-read_range.ensures.range)
 
 pub returns-then-is_some : goal.returns-then-is_some
 returns-then-is_some c = λ ranges n s.
     let e = all_read c.args.words.now c.args.count c.as_chunks.result.0.now ranges c.requires (search rules) n s in
-    is_first _ c.loop-words.words-index c.args.gross c.loop-words.invariant _ (search rules) ranges e c.in_ok-read_range.field-0 c.in_ok-read_range.ensures c.part_from-row.result c.part_from-row.ensures (search rules)
+    is_first _ c.loop-words.words-index c.args.gross c.loop-words.invariant _ (search rules) ranges e c.in_ok-read_range.field-0 c.in_ok-read_range.ensures.range c.rest_from-row.result c.rest_from-row.ensures (search rules)
 
 pub loop-words-preserved : goal.loop-words-preserved
 loop-words-preserved c = λ ranges e.
-    not_first _ c.loop-words.words-index c.args.gross c.loop-words.invariant _ (search rules) ranges e c.in_ok-read_range.field-0 c.in_ok-read_range.ensures c.part_from-row.result c.part_from-row.ensures (search rules)
+    not_first _ c.loop-words.words-index c.args.gross c.loop-words.invariant _ (search rules) ranges e c.in_ok-read_range.field-0 c.in_ok-read_range.ensures.range c.rest_from-row.result c.rest_from-row.ensures (search rules)
 
 pub returns : goal.returns
 returns c = λ ranges n s.
