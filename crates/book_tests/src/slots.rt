@@ -99,3 +99,11 @@ fn as_many_as_fit(rt: HostRuntime) -> Result<(), Fail> {
     holds(&rt, &words, 62, RuleKind::Take)?;
     holds(&rt, &words, 63, RuleKind::Fade)
 }
+
+// Where scratch lies in the words of a book: behind as many slots as there may be rules.
+#[test]
+fn scratch(rt: HostRuntime) {
+    assert_eq!(rt; Book::new(0, 300).scratch(), 4..64);
+    assert_eq!(rt; Book::new(1, 300).scratch(), 8..96);
+    assert_eq!(rt; Book::new(64, 300).scratch(), 260..2112);
+}

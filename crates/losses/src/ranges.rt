@@ -1,12 +1,12 @@
 // All ranges of a book, from the table of its segments, whose neighbours join.
 ghost use Rattle.std.specs.Prelude.{◌≡◌, ◌+◌, ◌*◌, ◌<◌, ◌≤◌, List, length, IfSome};
+ghost use Rattle.std.specs.List.{AllByRecursion};
 ghost use Rattle.raise.specs.declared.LosingRange.{LosingRange};
 ghost use Rattle.raise.specs.Ranges.{LosingRanges, losing_ranges};
 ghost use Rattle.lowest.specs.Entries.{width as entry_width};
 ghost use Rattle.lowest.specs.Table.{table as table_of, most_entries, with_table};
-ghost use Rattle.losses.specs.Words.{width, with_ranges, with_row, how_many, Fits, Stored};
-ghost use Rattle.std.specs.List.{AllByRecursion};
 ghost use Rattle.losses.specs.Parts.{joined};
+ghost use Rattle.losses.specs.Words.{width, with_ranges, with_row, how_many, Fits, Stored};
 
 use crate::parts::losing_part;
 use crate::words::put_range;

@@ -1,20 +1,20 @@
 // As many rules as a book can hold.
 use crate::rows::*;
 use losses::words_for;
-use samples::{NO_BOOK, book_of};
+use samples::book_with;
 use std::test::Fail;
 use wire::RuleKind;
 
-// A sum is given of every other gross only: each of these loses by the next unit.
+// A sum is given at every other gross only, up to 127: each of these loses by the next unit.
 #[test]
-fn as_many_ranges(rt: HostRuntime) -> Result<(), Fail> {
+fn one_range_a_rule(rt: HostRuntime) -> Result<(), Fail> {
     let mut rules = [RuleKind::GiveSum.rule([1, 2, 2]); 64];
     let mut expected = [(1, 1); 64];
     for i in 0..64u32 {
         rules[i as usize] = RuleKind::GiveSum.rule([2 * i + 1, 2 * i + 2, 2]);
         expected[i as usize] = (2 * i + 1, 2 * i + 1);
     }
-    let book = book_of(200, &rules).ok_or(NO_BOOK)?;
+    let book = book_with(200, &rules)?;
     assert_eq!(rt; words_for(&book), 1032);
     found(&rt, &book, &expected);
     told(&rt, &book, &[(126, Some(range(127, 127))), (128, None)]);
@@ -25,7 +25,7 @@ fn as_many_ranges(rt: HostRuntime) -> Result<(), Fail> {
 #[test]
 fn all_at_once(rt: HostRuntime) -> Result<(), Fail> {
     let takes = [RuleKind::Take.rule([0, MOST, 20_000]); 64];
-    let book = book_of(MOST, &takes).ok_or(NO_BOOK)?;
+    let book = book_with(MOST, &takes)?;
     found(&rt, &book, &[(0, MOST - 1)]);
     let rows = [
         (0, Some(range(0, MOST - 1))),
@@ -35,19 +35,29 @@ fn all_at_once(rt: HostRuntime) -> Result<(), Fail> {
     ];
     told(&rt, &book, &rows);
     let gives = [RuleKind::Give.rule([0, MOST, 20_000]); 64];
-    let book = book_of(MOST, &gives).ok_or(NO_BOOK)?;
+    let book = book_with(MOST, &gives)?;
     found(&rt, &book, &[]);
     Ok(())
 }
 
-// A sum of 100,000,000 ends at the bound, and of its last unit two are taken: 999,999,998 are left there, as many as of 899,999,998.
+// Each sum begins on the way down and ends on the way up, and makes a range at both: nearly two for each rule.
 #[test]
-fn at_the_bound(rt: HostRuntime) -> Result<(), Fail> {
+fn two_ranges_a_rule(rt: HostRuntime) -> Result<(), Fail> {
     let rules = [
-        RuleKind::Take.rule([MOST - 1, MOST, 20_000]),
-        RuleKind::GiveSum.rule([0, MOST, 100_000_000]),
+        RuleKind::Take.rule([0, 8, 20_000]),
+        RuleKind::GiveSum.rule([2, 20, 5]),
+        RuleKind::GiveSum.rule([4, 30, 5]),
     ];
-    let book = book_of(MOST, &rules).ok_or(NO_BOOK)?;
-    found(&rt, &book, &[(899_999_999, MOST - 1)]);
+    let book = book_with(50, &rules)?;
+    found(&rt, &book, &[(0, 0), (2, 2), (4, 7), (16, 19), (26, 29)]);
+    let mut rules = [RuleKind::Take.rule([0, 130, 20_000]); 64];
+    let mut expected = [(126, 129); 127];
+    for i in 0..63u32 {
+        rules[i as usize] = RuleKind::GiveSum.rule([2 * i + 2, 1_000 + 20 * i, 5]);
+        expected[i as usize] = (2 * i, 2 * i);
+        expected[64 + i as usize] = (996 + 20 * i, 999 + 20 * i);
+    }
+    let book = book_with(3_000, &rules)?;
+    found(&rt, &book, &expected);
     Ok(())
 }

@@ -1,6 +1,6 @@
 // On books with small bounds, the rows are those that are found by trying every earning.
 use crate::rows::*;
-use samples::{NO_BOOK, book_of};
+use samples::book_with;
 use std::test::Fail;
 use wire::{Rule, RuleKind};
 
@@ -23,8 +23,8 @@ fn rules() -> [Rule; 9] {
 fn runs_of_rules(rt: HostRuntime) -> Result<(), Fail> {
     let rules = rules();
     for from in 0..9 {
-        for to in from..9 {
-            let book = book_of(22, &rules[from..to]).ok_or(NO_BOOK)?;
+        for to in from + 1..=9 {
+            let book = book_with(22, &rules[from..to])?;
             as_tried(&rt, &book);
         }
     }
@@ -37,7 +37,7 @@ fn pairs_of_rules(rt: HostRuntime) -> Result<(), Fail> {
     for first in rules() {
         for second in rules() {
             for bound in [0, 7, 14, 18] {
-                let book = book_of(bound, &[first, second]).ok_or(NO_BOOK)?;
+                let book = book_with(bound, &[first, second])?;
                 as_tried(&rt, &book);
             }
         }

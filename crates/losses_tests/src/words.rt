@@ -1,14 +1,14 @@
 // Ranges as words.
 use crate::rows::*;
 use losses::{read_range, words_for, write_ranges};
-use samples::{NO_BOOK, book_of};
+use samples::book_with;
 use std::test::Fail;
 use wire::RuleKind;
 
 // There is room for three entries and three ranges and no more; the one range that there is begins at the first word.
 #[test]
 fn one_range(rt: HostRuntime) -> Result<(), Fail> {
-    let book = book_of(30, &[RuleKind::TakeSum.rule([10, 20, 3])]).ok_or(NO_BOOK)?;
+    let book = book_with(30, &[RuleKind::TakeSum.rule([10, 20, 3])])?;
     assert_eq!(rt; words_for(&book), 24);
     let mut table = [BEFORE; 18];
     let mut ranges = [BEFORE; 6];

@@ -3,7 +3,7 @@ ghost use Rattle.std.specs.Prelude.{◌<◌};
 
 use crate::tables::*;
 use lowest::{Entry, words_for};
-use samples::{NO_BOOK, book_of};
+use samples::book_with;
 use std::test::Fail;
 use wire::RuleKind;
 
@@ -19,7 +19,7 @@ fn as_many_segments(rt: HostRuntime) -> Result<(), Fail> {
         entries[128 - 2 * i as usize] = without;
         entries[127 - 2 * i as usize] = with;
     }
-    let book = book_of(200, &rules).ok_or(NO_BOOK)?;
+    let book = book_with(200, &rules)?;
     assert_eq!(rt; words_for(&book), 774);
     has(&rt, &book, &entries);
     Ok(())
@@ -43,14 +43,14 @@ fn two_segments(i: u32) -> (Entry, Entry)
 #[test]
 fn all_at_once(rt: HostRuntime) -> Result<(), Fail> {
     let least = 10_000_000_000_000 - 1_280_000_000_000_000;
-    let book = book_of(MOST, &[RuleKind::Take.rule([0, MOST, 20_000]); 64]).ok_or(NO_BOOK)?;
+    let book = book_with(MOST, &[RuleKind::Take.rule([0, MOST, 20_000]); 64])?;
     let entries = [
         entry(MOST, MOST + 1, least, 10_000, None),
         entry(0, MOST, 0, -1_270_000, Some(least)),
     ];
     has(&rt, &book, &entries);
     let greatest = 1_290_000_000_000_000;
-    let book = book_of(MOST, &[RuleKind::Give.rule([0, MOST, 20_000]); 64]).ok_or(NO_BOOK)?;
+    let book = book_with(MOST, &[RuleKind::Give.rule([0, MOST, 20_000]); 64])?;
     let entries = [
         entry(MOST, MOST + 1, greatest, 10_000, None),
         entry(0, MOST, 0, 1_290_000, Some(greatest)),

@@ -1,17 +1,17 @@
 // Where the lowest beyond a segment lies.
 use crate::tables::*;
-use samples::{NO_BOOK, book_of};
+use samples::book_with;
 use std::test::Fail;
 use wire::RuleKind;
 
 #[test]
 fn one_segment(rt: HostRuntime) -> Result<(), Fail> {
-    let book = book_of(0, &[]).ok_or(NO_BOOK)?;
+    let book = book_with(0, &[])?;
     has(&rt, &book, &[entry(0, 1, 0, 10_000, None)]);
-    let book = book_of(MOST, &[]).ok_or(NO_BOOK)?;
+    let book = book_with(MOST, &[])?;
     has(&rt, &book, &[entry(0, MOST + 1, 0, 10_000, None)]);
     let above = [RuleKind::Take.rule([20, 30, 10_000])];
-    let book = book_of(19, &above).ok_or(NO_BOOK)?;
+    let book = book_with(19, &above)?;
     has(&rt, &book, &[entry(0, 20, 0, 10_000, None)]);
     Ok(())
 }
@@ -20,7 +20,7 @@ fn one_segment(rt: HostRuntime) -> Result<(), Fail> {
 #[test]
 fn level(rt: HostRuntime) -> Result<(), Fail> {
     let rules = [RuleKind::Take.rule([10, 20, 10_000])];
-    let book = book_of(40, &rules).ok_or(NO_BOOK)?;
+    let book = book_with(40, &rules)?;
     let entries = [
         entry(20, 41, 100_000, 10_000, None),
         entry(10, 20, 100_000, 0, Some(100_000)),
@@ -37,7 +37,7 @@ fn as_low_at_several(rt: HostRuntime) -> Result<(), Fail> {
         RuleKind::Take.rule([10, 20, 20_000]),
         RuleKind::Take.rule([30, 40, 20_000]),
     ];
-    let book = book_of(50, &rules).ok_or(NO_BOOK)?;
+    let book = book_with(50, &rules)?;
     let entries = [
         entry(40, 51, 0, 10_000, None),
         entry(30, 40, 100_000, -10_000, Some(0)),
@@ -55,7 +55,7 @@ fn at_the_bound(rt: HostRuntime) -> Result<(), Fail> {
         RuleKind::Take.rule([10, MOST, 15_000]),
         RuleKind::Give.rule([20, 25, 1_000]),
     ];
-    let book = book_of(30, &rules).ok_or(NO_BOOK)?;
+    let book = book_with(30, &rules)?;
     let entries = [
         entry(25, 31, 30_000, -5_000, None),
         entry(20, 25, 50_000, -4_000, Some(5_000)),
@@ -70,7 +70,7 @@ fn at_the_bound(rt: HostRuntime) -> Result<(), Fail> {
 #[test]
 fn just_above(rt: HostRuntime) -> Result<(), Fail> {
     let rules = [RuleKind::TakeSum.rule([15, MOST, 12])];
-    let book = book_of(30, &rules).ok_or(NO_BOOK)?;
+    let book = book_with(30, &rules)?;
     let entries = [
         entry(15, 31, 30_000, 10_000, None),
         entry(0, 15, 0, 10_000, Some(30_000)),
@@ -86,7 +86,7 @@ fn at_the_last_of_a_segment(rt: HostRuntime) -> Result<(), Fail> {
         RuleKind::Take.rule([10, 20, 20_000]),
         RuleKind::GiveSum.rule([20, MOST, 50]),
     ];
-    let book = book_of(40, &rules).ok_or(NO_BOOK)?;
+    let book = book_with(40, &rules)?;
     let entries = [
         entry(20, 41, 500_000, 10_000, None),
         entry(10, 20, 100_000, -10_000, Some(500_000)),
@@ -105,7 +105,7 @@ fn falling_and_rising(rt: HostRuntime) -> Result<(), Fail> {
         RuleKind::Take.rule([40, 50, 18_000]),
         RuleKind::Take.rule([60, 70, 11_000]),
     ];
-    let book = book_of(80, &rules).ok_or(NO_BOOK)?;
+    let book = book_with(80, &rules)?;
     let entries = [
         entry(70, 81, 160_000, 10_000, None),
         entry(60, 70, 170_000, -1_000, Some(160_000)),
@@ -128,7 +128,7 @@ fn a_family(rt: HostRuntime) -> Result<(), Fail> {
         RuleKind::GiveSum.rule([0, 1_500, 200]),
         RuleKind::Fade.rule([500, 3_000, 300]),
     ];
-    let book = book_of(5_000, &rules).ok_or(NO_BOOK)?;
+    let book = book_with(5_000, &rules)?;
     let entries = [
         entry(3_000, 5_001, 26_000_000, 6_000, None),
         entry(1_501, 3_000, 14_008_000, 8_000, Some(26_000_000)),
@@ -148,7 +148,7 @@ fn fades_that_last(rt: HostRuntime) -> Result<(), Fail> {
         RuleKind::Fade.rule([5, 0, 9]),
         RuleKind::Fade.rule([10, 1, 100_000_000]),
     ];
-    let book = book_of(20, &rules).ok_or(NO_BOOK)?;
+    let book = book_with(20, &rules)?;
     let entries = [
         entry(10, 21, 1_000_000_190_000, 9_999, None),
         entry(5, 10, 1_000_000_140_000, 10_000, Some(1_000_000_190_000)),

@@ -1,7 +1,7 @@
 // Tables and entries as words.
 use crate::tables::*;
 use lowest::{read_entry, words_for, write_table};
-use samples::{NO_BOOK, book_of};
+use samples::book_with;
 use std::test::Fail;
 use wire::RuleKind;
 
@@ -11,7 +11,7 @@ const LESS_THAN_NOTHING: u64 = 18_446_744_073_709_521_616;
 // A sum of 5 begins at 2. There is room for three entries and no more, and the two that there are begin at the first word.
 #[test]
 fn two_entries(rt: HostRuntime) -> Result<(), Fail> {
-    let book = book_of(3, &[RuleKind::TakeSum.rule([2, MOST, 5])]).ok_or(NO_BOOK)?;
+    let book = book_with(3, &[RuleKind::TakeSum.rule([2, MOST, 5])])?;
     let mut words = [BEFORE; 18];
     assert_eq!(rt; words_for(&book), 18);
     let count = write_table(&mut words, 0, &book);

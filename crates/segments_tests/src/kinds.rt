@@ -1,16 +1,16 @@
 // Rules of every kind, and breakpoints at the edges.
 use crate::books::*;
-use samples::{NO_BOOK, book_of};
+use samples::book_with;
 use segments::{Span, span_of};
 use std::test::Fail;
 use wire::RuleKind;
 
 #[test]
 fn no_rules(rt: HostRuntime) -> Result<(), Fail> {
-    let book = book_of(0, &[]).ok_or(NO_BOOK)?;
+    let book = book_with(0, &[])?;
     cut(&rt, &book, &[(1, 0, 10_000)])?;
     hold(&rt, &book, &[(0, 0)]);
-    let book = book_of(MOST, &[]).ok_or(NO_BOOK)?;
+    let book = book_with(MOST, &[])?;
     cut(&rt, &book, &[(MOST + 1, 0, 10_000)])?;
     next(
         &rt,
@@ -33,7 +33,7 @@ fn together(rt: HostRuntime) -> Result<(), Fail> {
         RuleKind::Give.rule([20, 30, 500]),
         RuleKind::TakeSum.rule([10, 30, 1]),
     ];
-    let book = book_of(40, &rules).ok_or(NO_BOOK)?;
+    let book = book_with(40, &rules)?;
     let segments = [
         (10, 0, 10_000),
         (20, 90_000, 9_000),
@@ -70,7 +70,7 @@ fn at_the_edges(rt: HostRuntime) -> Result<(), Fail> {
         RuleKind::Take.rule([40, 50, 3_000]),
         RuleKind::Take.rule([41, MOST, 20_000]),
     ];
-    let book = book_of(40, &rules).ok_or(NO_BOOK)?;
+    let book = book_with(40, &rules)?;
     cut(
         &rt,
         &book,
@@ -94,9 +94,9 @@ fn at_the_edges(rt: HostRuntime) -> Result<(), Fail> {
             (MOST, 0),
         ],
     );
-    let book = book_of(4, &rules).ok_or(NO_BOOK)?;
+    let book = book_with(4, &rules)?;
     cut(&rt, &book, &[(5, 20_000, 10_000)])?;
-    let book = book_of(5, &rules).ok_or(NO_BOOK)?;
+    let book = book_with(5, &rules)?;
     cut(&rt, &book, &[(5, 20_000, 10_000), (6, 50_000, 10_000)])
 }
 
@@ -110,7 +110,7 @@ fn of_a_family(rt: HostRuntime) -> Result<(), Fail> {
         RuleKind::GiveSum.rule([0, 1_500, 200]),
         RuleKind::Fade.rule([500, 3_000, 300]),
     ];
-    let book = book_of(5_000, &rules).ok_or(NO_BOOK)?;
+    let book = book_with(5_000, &rules)?;
     let segments = [
         (500, 5_000_000, 10_000),
         (1_000, 10_000_000, 7_000),
@@ -160,14 +160,13 @@ fn where_each_holds(rt: HostRuntime) {
 // within its first.
 #[test]
 fn fades(rt: HostRuntime) -> Result<(), Fail> {
-    let book = book_of(
+    let book = book_with(
         40,
         &[
             RuleKind::Fade.rule([5, 9_000, 9]),
             RuleKind::Take.rule([0, 100, 2_000]),
         ],
-    )
-    .ok_or(NO_BOOK)?;
+    )?;
     cut(
         &rt,
         &book,
@@ -178,7 +177,7 @@ fn fades(rt: HostRuntime) -> Result<(), Fail> {
         ],
     )?;
     hold(&rt, &book, &[(4, 2), (5, 3), (15, 3), (16, 2)]);
-    let book = book_of(40, &[RuleKind::Fade.rule([5, 9_000, 8])]).ok_or(NO_BOOK)?;
+    let book = book_with(40, &[RuleKind::Fade.rule([5, 9_000, 8])])?;
     cut(
         &rt,
         &book,
@@ -188,7 +187,7 @@ fn fades(rt: HostRuntime) -> Result<(), Fail> {
             (41, 140_000, 10_000),
         ],
     )?;
-    let book = book_of(40, &[RuleKind::Fade.rule([5, 20_000, 1])]).ok_or(NO_BOOK)?;
+    let book = book_with(40, &[RuleKind::Fade.rule([5, 20_000, 1])])?;
     cut(
         &rt,
         &book,
@@ -203,10 +202,10 @@ fn fades(rt: HostRuntime) -> Result<(), Fail> {
 // It is never used up at a rate of 0, and past 2^32 at a low one, where its end cut to 32 bits would be 2,705.
 #[test]
 fn fades_that_last(rt: HostRuntime) -> Result<(), Fail> {
-    let book = book_of(40, &[RuleKind::Fade.rule([5, 0, 9])]).ok_or(NO_BOOK)?;
+    let book = book_with(40, &[RuleKind::Fade.rule([5, 0, 9])])?;
     cut(&rt, &book, &[(5, 90_000, 10_000), (41, 140_000, 10_000)])?;
     hold(&rt, &book, &[(4, 0), (5, 1), (u32::MAX, 1)]);
-    let book = book_of(MOST, &[RuleKind::Fade.rule([0, 1, 429_497])]).ok_or(NO_BOOK)?;
+    let book = book_with(MOST, &[RuleKind::Fade.rule([0, 1, 429_497])])?;
     cut(&rt, &book, &[(MOST + 1, 4_294_970_000, 9_999)])?;
     hold(&rt, &book, &[(4_294_967_295, 1)]);
     Ok(())

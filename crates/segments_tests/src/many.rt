@@ -1,6 +1,6 @@
 // As many rules as a book can hold.
 use crate::books::*;
-use samples::{NO_BOOK, book_of};
+use samples::book_with;
 use segments::Segment;
 use std::test::Fail;
 use wire::{Rule, RuleKind};
@@ -26,7 +26,7 @@ fn level(from: u32, to: u32, net: i64) -> Segment {
 // 129 segments, with one rule on every other one, and none on the last.
 #[test]
 fn as_many_segments(rt: HostRuntime) -> Result<(), Fail> {
-    let book = book_of(200, &apart()).ok_or(NO_BOOK)?;
+    let book = book_with(200, &apart())?;
     for i in 0..64u32 {
         let from = 2 * i;
         let net = 20_000 * i64::from(i);
@@ -43,7 +43,7 @@ fn as_many_segments(rt: HostRuntime) -> Result<(), Fail> {
 // All rules hold at once and take most.
 #[test]
 fn all_at_once(rt: HostRuntime) -> Result<(), Fail> {
-    let book = book_of(MOST, &[RuleKind::Take.rule([0, MOST, 20_000]); 64]).ok_or(NO_BOOK)?;
+    let book = book_with(MOST, &[RuleKind::Take.rule([0, MOST, 20_000]); 64])?;
     let at_the_bound = 10_000_000_000_000 - 1_280_000_000_000_000;
     cut(
         &rt,
@@ -55,7 +55,7 @@ fn all_at_once(rt: HostRuntime) -> Result<(), Fail> {
         &book,
         &[(0, u64::MAX), (MOST - 1, u64::MAX), (MOST, 0)],
     );
-    let book = book_of(MOST, &[RuleKind::Give.rule([0, MOST, 20_000]); 64]).ok_or(NO_BOOK)?;
+    let book = book_with(MOST, &[RuleKind::Give.rule([0, MOST, 20_000]); 64])?;
     cut(
         &rt,
         &book,

@@ -65,8 +65,16 @@ fn unused_words(rt: HostRuntime) -> Result<(), Fail> {
     let book = words;
     words[4] = 99;
     words[127] = 1;
-    none_asked(&rt, &mut words, &[(LEFT, 301)], Refusal::OutOfRange);
+    none_asked(
+        &rt,
+        &mut words,
+        &[(LEFT, 301), (ROW, 301)],
+        Refusal::OutOfRange,
+    );
     says(&rt, &mut words, &ask(LEFT, 1), Answer::Two(10_000, 0));
+    assert_eq!(rt; words, book);
+    words[12..128].fill(u64::MAX);
+    says(&rt, &mut words, &ask(ROW, 0), Answer::Two(0, 0));
     assert_eq!(rt; words, book);
     Ok(())
 }

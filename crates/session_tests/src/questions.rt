@@ -61,6 +61,19 @@ fn steep_tax(rt: HostRuntime) -> Result<(), Fail> {
     answers(&rt, &[(TAKE, 0, 10, 12_000)], 20, &table)
 }
 
+// Rows one after the other: 12 alone doesn't lose between 9 and 13, since of 14 as much is left.
+#[test]
+fn rows_on(rt: HostRuntime) -> Result<(), Fail> {
+    let table = [
+        (ROW, 0, Answer::Two(10, 12)),
+        (ROW, 12, Answer::Two(14, 14)),
+        (ROW, 14, Answer::Two(0, 0)),
+        (ROW, 11, Answer::Two(12, 12)),
+    ];
+    let rules = [(TAKE, 10, 12, 20_000), (TAKE, 13, 14, 20_000)];
+    answers(&rt, &rules, 30, &table)
+}
+
 // The same tax where the bound ends it: there is a loss that nothing makes good.
 #[test]
 fn never_safe(rt: HostRuntime) -> Result<(), Fail> {
