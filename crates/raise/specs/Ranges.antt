@@ -17,7 +17,8 @@ unfoldable pub Apart : ℕ → List LosingRange → Type 0
 Apart x [] = Unit {0}
 Apart x (r ∷ rs) = (x ≤ r.first) × (r.first ≤ r.last) × Apart (r.last + 2) rs
 
--- the ranges of the earnings below e that pass a test, each as long as can be: an earning lies in one just if it is below e and passes
+-- the ranges of the earnings below e that pass a test, each as long as can be: an earning lies in one just if it is below e and
+-- passes
 pub record RangesOf (test : ℕ → Bool) (e : ℕ) (ranges : List LosingRange) : Type 0 where
   pub apart : Apart 0 ranges
   pub exact : (g : ℕ) → lies_in_one ranges g ≡ (nat_lt g e && test g)

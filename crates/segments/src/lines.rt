@@ -34,8 +34,8 @@ impl Segment {
         self.net + self.slope * i64::from(gross - self.from)
     }
 
-    // The first gross on a segment that doesn't fall of which more is left than so much, if there is one; and of all after it on the
-    // segment.
+    // The first gross on a segment that doesn't fall of which more is left than so much, if there is one. Of all after it on the
+    // segment more is, too.
     #[tactic(auto, using(crate::proofs::Above::found_above, crate::proofs::Above::none_above))]
     pub fn first_above(self, level: i64) -> Option<u32>
         requires some { self.from < self.to }
