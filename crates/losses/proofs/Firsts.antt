@@ -11,7 +11,6 @@ use Rattle.raise.specs.Calls.{Limits, told, row_from}
 use Rattle.raise.specs.Told.{row_told}
 use Rattle.raise.proofs.Ranges.{losing_found, row_is_first}
 use Rattle.raise.proofs.Picks.{none_some}
-use Rattle.book.specs.Slots.{StoredBy}
 use Rattle.losses.specs.Words.{width, read_range, Stored}
 use Rattle.losses.proofs.Lists.{chunks_read, read_at}
 
@@ -22,7 +21,6 @@ Passed chunks i g = (ranges : List LosingRange) → map read_range chunks ≡ ma
 -- so many chunks of words that hold so many ranges
 pub all_read : (ws : List ℕ) (count : ℕ) (chunks : List (List ℕ)) (ranges : List LosingRange) → width * count ≤ length ws → chunks ≡ first_chunks width (length ws / width) ws → count ≡ length ranges → Stored ws ranges →
     map read_range (take count chunks) ≡ map Some ranges
-unfolding StoredBy
 all_read ws count chunks ranges le c n s = rw (c, n) (chunks_read read_range width ranges (length ws / width) ws (omega (arith, le, n)) s)
 
 module _ (chunks : List (List ℕ)) (i g : ℕ) (h : Passed chunks i g) (d : List ℕ) (lt : i < length chunks) (ranges : List LosingRange) (e : map read_range chunks ≡ map Some ranges) where

@@ -1,13 +1,15 @@
 -- What chunks of words are read as, and lists turned round.
 use Rattle.std.proofs.Common.{◌≡◌, ℕ, zero, suc, ◌+◌, ◌*◌, ◌<◌, ◌≤◌, List, [], ◌∷◌, ◌++◌, map, reverse, length, get_or, take, drop, Some, Option, sym, refl, ap, ◌∙◌, arith}
-use Rattle.std.specs.List.{AllByRecursion, slice_get}
+use Rattle.std.specs.List.{AllByRecursion}
+use Rattle.book.specs.Slots.{StoredBy}
 use Rattle.std.specs.Simd.{first_chunks}
 use Rattle.std.proofs.lemmas.List.{drop-drop, map-append, length-map, length_push, same_from_push}
 use Rattle.std.proofs.lemmas.Grind.{reverse_onto}
 
 -- if each slot of w words reads as what is at its place, the first chunks do
-pub chunks_read : {X : Type 0} (read : List ℕ → Option X) (w : ℕ) (xs : List X) (k : ℕ) (ws : List ℕ) → length xs ≤ k →
-    ((i : ℕ) → i < length xs → read (take w (drop (w * i) ws)) ≡ slice_get xs i) → map read (take (length xs) (first_chunks w k ws)) ≡ map Some xs
+pub chunks_read : {X : Type 0} (read : List ℕ → Option X) (w : ℕ) (xs : List X) (k : ℕ) (ws : List ℕ) → length xs ≤ k → StoredBy read w ws xs →
+    map read (take (length xs) (first_chunks w k ws)) ≡ map Some xs
+unfolding StoredBy
 chunks_read read w [] k ws le s = refl
 chunks_read read w (x ∷ xs) zero ws le s = absurd (omega arith)
 chunks_read {X = X} read w (x ∷ xs) (suc k) ws le s =

@@ -27,22 +27,25 @@ use Rattle.std.proofs.lemmas.List.{map-id, length-map, length_push}
 abbrev pub PartIn : Entry → Option LosingRange → Type 0
 PartIn e p = PartOf (loses_on e) e.segment.from e.segment.to p
 
--- where the walk stands: es are the entries ahead, the next of them first, and x is where its segment begins; rows are written, in
--- words of which ws were there before
-pub record State (rs : List Rule) (b : ℕ) (ws : List ℕ) (chunks : List (List ℕ)) (count : ℕ) (last : Option LosingRange) (us : List ℕ) : Type 0 where
+-- what is ahead: the entries, the next of them first, whose segments go on from x up to b
+pub record Ahead (rs : List Rule) (b : ℕ) (chunks : List (List ℕ)) : Type 0 where
   pub es : List Entry
-  pub ahead : map read_entry chunks ≡ map Some (reverse es)
+  pub read : map read_entry chunks ≡ map Some (reverse es)
   pub each : AllByRecursion (EntryOf rs b) (reverse es)
   pub sized : AllByRecursion SizedEntry (reverse es)
   pub x : ℕ
   pub chain : Chain (map (λ e. e.segment) es) x (suc b)
   pub low : x ≤ 1000000001
+
+-- where the walk stands: rows are written, in words of which ws were there before, and with the last they are those before x
+pub record State (rs : List Rule) (b : ℕ) (ws : List ℕ) (chunks : List (List ℕ)) (count : ℕ) (last : Option LosingRange) (us : List ℕ) : Type 0 where
+  pub ahead : Ahead rs b chunks
   pub rows : List LosingRange
   pub counted : count ≡ length rows
   pub written : us ≡ flat_map range_words rows ++ drop (width * count) ws
-  pub found : RangesOf (loses rs b) x (with_last rows last)
+  pub found : RangesOf (loses rs b) ahead.x (with_last rows last)
   pub fresh : last ≡ None → rows ≡ []
-  pub room : length (with_last rows last) + length es ≤ most_entries rs
+  pub room : length (with_last rows last) + length ahead.es ≤ most_entries rs
 
 -- closed, so that a search goes by the lemmas about it
 pub data At (rs : List Rule) (b : ℕ) (ws : List ℕ) (chunks : List (List ℕ)) (count : ℕ) (last : Option LosingRange) (us : List ℕ) : Type 0 where
@@ -67,13 +70,7 @@ module _ (rs : List Rule) (b : ℕ) where
       let c = segments_cover rs b in
       let s : map (λ (e : Entry). e.segment) upward ≡ segments rs b = map-map (λ (e : Entry). e.segment) (entry rs b) (segments rs b) ∙ map-id (segments rs b) in
       at (record {
-        es = upward;
-        ahead = rw back e;
-        each = rw back (table_is rs b).each;
-        sized = rw back z;
-        x = 0;
-        low = omega arith;
-        chain = rw s c.in_order;
+        ahead = record { es = upward; read = rw back e; each = rw back (table_is rs b).each; sized = rw back z; x = 0; chain = rw s c.in_order; low = omega arith };
         rows = [];
         counted = refl;
         written = refl;
@@ -96,8 +93,8 @@ module _ {rs : List Rule} {b : ℕ} {ws : List ℕ} {all : List (List ℕ)} {cou
   pub a : State rs b ws all count last us
   a = state h
 
-  pub first : (e : Entry) × (ds : List Entry) × (a.es ≡ e ∷ ds) × (map read_entry chunks ≡ map Some (reverse ds)) × (read_entry words ≡ Some e)
-  first = next_read read_entry a.es chunks words (ap (map read_entry) (sym next) ∙ a.ahead)
+  pub first : (e : Entry) × (ds : List Entry) × (a.ahead.es ≡ e ∷ ds) × (map read_entry chunks ≡ map Some (reverse ds)) × (read_entry words ≡ Some e)
+  first = next_read read_entry a.ahead.es chunks words (ap (map read_entry) (sym next) ∙ a.ahead.read)
 
   abbrev pub e : Entry
   e = first.0
@@ -105,21 +102,24 @@ module _ {rs : List Rule} {b : ℕ} {ws : List ℕ} {all : List (List ℕ)} {cou
   abbrev ds : List Entry
   ds = first.1
 
-  turned : reverse a.es ≡ reverse ds ++ (e ∷ [])
+  turned : reverse a.ahead.es ≡ reverse ds ++ (e ∷ [])
   turned = ap reverse first.2 ∙ reverse_onto ds e []
 
   each : AllByRecursion (EntryOf rs b) (reverse ds) × EntryOf rs b e
-  each = all_split (EntryOf rs b) (reverse ds) e (rw turned at a.each)
+  each = all_split (EntryOf rs b) (reverse ds) e (rw turned at a.ahead.each)
 
   sized : AllByRecursion SizedEntry (reverse ds) × SizedEntry e
-  sized = all_split SizedEntry (reverse ds) e (rw turned at a.sized)
+  sized = all_split SizedEntry (reverse ds) e (rw turned at a.ahead.sized)
 
-  chain : (e.segment.from ≡ a.x) × Chain (map (λ (e : Entry). e.segment) ds) e.segment.to (suc b)
+  chain : (e.segment.from ≡ a.ahead.x) × Chain (map (λ (e : Entry). e.segment) ds) e.segment.to (suc b)
   unfolding Chain
-  chain = rw first.2 at a.chain
+  chain = rw first.2 at a.ahead.chain
 
   some : e.segment.from < e.segment.to
   some = each.1.segment.ends.above
+
+  others : Ahead rs b chunks
+  others = record { es = ds; read = first.3; each = each.0; sized = sized.0; x = e.segment.to; chain = chain.1; low = sized.1.segment.to }
 
   same : (o : Option Entry) → o ≡ read_entry words → (x : Entry) → o ≡ Some x → e ≡ x
   same o f x g = let k : Some e ≡ Some x = sym first.4 ∙ sym f ∙ g in cc
@@ -133,33 +133,27 @@ module _ {rs : List Rule} {b : ℕ} {ws : List ℕ} {all : List (List ℕ)} {cou
   part_read (Some x) p f m = rw (same (Some x) f x refl) m
 
   -- on its segment
-  here : (g : ℕ) → a.x ≤ g → g < e.segment.to → loses rs b g ≡ loses_on e g
+  here : (g : ℕ) → a.ahead.x ≤ g → g < e.segment.to → loses rs b g ≡ loses_on e g
   here g lo hi = by_entry rs b e each.1 g (omega (arith, chain.0, lo)) hi
 
-  more : a.x < e.segment.to
+  more : a.ahead.x < e.segment.to
   more = omega (arith, chain.0, some)
 
   module _ (p : Option LosingRange) (part : PartIn e p) where
-    passing : PartOf (loses rs b) a.x e.segment.to p
+    passing : PartOf (loses rs b) a.ahead.x e.segment.to p
     passing = record { exact = λ g lo hi. part.exact g (omega (arith, chain.0, lo)) hi ∙ sym (here g lo hi); within = rw (← chain.0) part.within }
 
   -- no part of it loses
   pub passes : (o : Option Entry) → o ≡ read_entry words → MatchOption o (◌≡◌ {A = Option LosingRange} None None) (λ x. PartIn x None) → At rs b ws chunks count last us
-  unfolding Chain
+  unfolding others
   passes o f m =
       let part = part_read o None f m in
       at (record {
-        es = ds;
-        ahead = first.3;
-        each = each.0;
-        sized = sized.0;
-        x = e.segment.to;
-        low = sized.1.segment.to;
-        chain = chain.1;
+        ahead = others;
         rows = a.rows;
         counted = a.counted;
         written = a.written;
-        found = extended (loses rs b) a.x e.segment.to more None (passing None part) (with_last a.rows last) (with_last a.rows last) a.found (λ g. grind arith) a.found.apart;
+        found = extended (loses rs b) a.ahead.x e.segment.to more None (passing None part) (with_last a.rows last) (with_last a.rows last) a.found (λ g. grind arith) a.found.apart;
         fresh = a.fresh;
         room = omega (arith, a.room, ap length first.2);
       })
@@ -168,18 +162,18 @@ module _ {rs : List Rule} {b : ℕ} {ws : List ℕ} {all : List (List ℕ)} {cou
     part : PartIn e (Some p)
     part = part_read o (Some p) f m
 
-    q : PartOf (loses rs b) a.x e.segment.to (Some p)
+    q : PartOf (loses rs b) a.ahead.x e.segment.to (Some p)
     q = passing (Some p) part
 
     pub last_before : IfSome last (λ r. r.last < p.first)
     last_before = by_last last a.found
       where
-        by_last : (l : Option LosingRange) → RangesOf (loses rs b) a.x (with_last a.rows l) → IfSome l (λ r. r.last < p.first)
+        by_last : (l : Option LosingRange) → RangesOf (loses rs b) a.ahead.x (with_last a.rows l) → IfSome l (λ r. r.last < p.first)
         by_last None i = tt
-        by_last (Some r) i = omega (arith, ends_before (loses rs b) a.x a.rows r i, q.within.0)
+        by_last (Some r) i = omega (arith, ends_before (loses rs b) a.ahead.x a.rows r i, q.within.0)
 
     -- the last row and it are one
-    longer_found : (l longer : Option LosingRange) → RangesOf (loses rs b) a.x (with_last a.rows l) → longer ≡ joined l p → (longer ≡ None → ⊥) →
+    longer_found : (l longer : Option LosingRange) → RangesOf (loses rs b) a.ahead.x (with_last a.rows l) → longer ≡ joined l p → (longer ≡ None → ⊥) →
         RangesOf (loses rs b) e.segment.to (with_last a.rows longer) × (length (with_last a.rows longer) ≡ length (with_last a.rows l))
     longer_found None longer i j some = absurd (some j)
     longer_found (Some r) longer i j some =
@@ -195,23 +189,17 @@ module _ {rs : List Rule} {b : ℕ} {ws : List ℕ} {all : List (List ℕ)} {cou
               λ g. lies_push a.rows k g ∙ ap (λ (t : Bool). lies_in_one a.rows g || t) (both g) ∙ sym (or_assoc (lies_in_one a.rows g) (lies_in r g) (lies_in p g)) ∙
               ap (λ (t : Bool). t || lies_in p g) (sym (lies_push a.rows r g)) in
               rw t (
-                extended (loses rs b) a.x e.segment.to more (Some p) q (a.rows ++ (r ∷ [])) (a.rows ++ (k ∷ [])) i same (apart_longer 0 a.rows r p i.apart (omega (arith, touch, w.1))),
+                extended (loses rs b) a.ahead.x e.segment.to more (Some p) q (a.rows ++ (r ∷ [])) (a.rows ++ (k ∷ [])) i same (apart_longer 0 a.rows r p i.apart (omega (arith, touch, w.1))),
                 length_push a.rows k ∙ sym (length_push a.rows r),
               )
         ]
 
     pub joins : (longer : Option LosingRange) → longer ≡ joined last p → (longer ≡ None → ⊥) → At rs b ws chunks count longer us
-    unfolding Chain
+    unfolding others
     joins longer j some =
         let i = longer_found last longer a.found j some in
         at (record {
-          es = ds;
-          ahead = first.3;
-          each = each.0;
-          sized = sized.0;
-          x = e.segment.to;
-          low = sized.1.segment.to;
-          chain = chain.1;
+          ahead = others;
           rows = a.rows;
           counted = a.counted;
           written = a.written;
@@ -222,31 +210,25 @@ module _ {rs : List Rule} {b : ℕ} {ws : List ℕ} {all : List (List ℕ)} {cou
 
     -- the last row is written, and it is the last one now
     pub parts : (n : ℕ) (vs : List ℕ) → None ≡ joined last p → n ≡ how_many last + count → vs ≡ with_row us count last → At rs b ws chunks n (Some p) vs
-    unfolding Chain
+    unfolding others
     parts n vs j c w =
         let rows = with_last a.rows last in
         let put = row_put ws us a.rows count last a.counted a.written in
         at (record {
-          es = ds;
-          ahead = first.3;
-          each = each.0;
-          sized = sized.0;
-          x = e.segment.to;
-          low = sized.1.segment.to;
-          chain = chain.1;
+          ahead = others;
           rows = rows;
           counted = c ∙ put.0;
           written = rw c (w ∙ put.1);
-          found = extended (loses rs b) a.x e.segment.to more (Some p) q rows (rows ++ (p ∷ [])) a.found (λ g. lies_push rows p g) (apart last a.found j a.fresh);
+          found = extended (loses rs b) a.ahead.x e.segment.to more (Some p) q rows (rows ++ (p ∷ [])) a.found (λ g. lies_push rows p g) (apart last a.found j a.fresh);
           fresh = λ z. none_some p (sym z);
           room = omega (arith, a.room, ap length first.2, length_push rows p);
         })
       where
-        apart : (l : Option LosingRange) → RangesOf (loses rs b) a.x (with_last a.rows l) → None ≡ joined l p → (l ≡ None → a.rows ≡ []) → Apart 0 (with_last a.rows l ++ (p ∷ []))
+        apart : (l : Option LosingRange) → RangesOf (loses rs b) a.ahead.x (with_last a.rows l) → None ≡ joined l p → (l ≡ None → a.rows ≡ []) → Apart 0 (with_last a.rows l ++ (p ∷ []))
         apart None i j f = rw (f refl) (apart_first 0 p (omega arith) q.within.1)
         apart (Some r) i j f =
             let n = eqb-false _ _ (not_picked (eqb p.first (suc r.last)) (record { first = r.first; last = p.last }) j) in
-            apart_push 0 a.rows r p i.apart (omega (arith, ends_before (loses rs b) a.x a.rows r i, q.within.0, n)) q.within.1
+            apart_push 0 a.rows r p i.apart (omega (arith, ends_before (loses rs b) a.ahead.x a.rows r i, q.within.0, n)) q.within.1
 
 -- ---- what the walk ends with
 
@@ -258,14 +240,14 @@ module _ {rs : List Rule} {b : ℕ} {ws : List ℕ} {chunks : List (List ℕ)} {
   pub room : (n : ℕ) → width * most_entries rs ≤ n → IfSome last (λ r. width * count + width ≤ n)
   room n le = by_last last s.room
     where
-      by_last : (l : Option LosingRange) → length (with_last s.rows l) + length s.es ≤ most_entries rs → IfSome l (λ r. width * count + width ≤ n)
+      by_last : (l : Option LosingRange) → length (with_last s.rows l) + length s.ahead.es ≤ most_entries rs → IfSome l (λ r. width * count + width ≤ n)
       by_last None i = tt
       by_last (Some r) i = omega (arith, i, length_push s.rows r, s.counted, le)
 
   module _ (none : length chunks ≡ 0) where
-    at_end : s.x ≡ suc b
+    at_end : s.ahead.x ≡ suc b
     unfolding Chain
-    at_end = rw (none_ahead read_entry s.es chunks none s.ahead) at s.chain
+    at_end = rw (none_ahead read_entry s.ahead.es chunks none s.ahead.read) at s.ahead.chain
 
     all : with_last s.rows last ≡ losing_ranges rs b
     all = only_ranges (loses rs b) (suc b) (with_last s.rows last) (losing_ranges rs b) (rw at_end at s.found) (losing_found rs b)
@@ -282,4 +264,4 @@ module _ {rs : List Rule} {b : ℕ} {ws : List ℕ} {chunks : List (List ℕ)} {
         rw (put.0, all) at (w ∙ put.1)
 
     pub ends_fit : AllByRecursion Fits (losing_ranges rs b)
-    ends_fit = ranges_fit rs b (omega (arith, at_end, s.low))
+    ends_fit = ranges_fit rs b (omega (arith, at_end, s.ahead.low))

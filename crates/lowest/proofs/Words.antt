@@ -1,11 +1,11 @@
--- Entries in words: how many these are, and what reads back.
-use Rattle.std.proofs.Common.{◌≡◌, ℕ, ◌≤◌, ◌-◌, ◌*◌, true, ltb, List, ◌++◌, length, take, drop, ℤ, Some, None, Option, refl, ap, ◌∙◌, append_assoc, w64, arith}
+-- Entries in words: how many these are for each, and what reads back.
+use Rattle.std.proofs.Common.{◌≡◌, ℕ, ◌≤◌, ◌-◌, true, ltb, List, ◌++◌, length, take, drop, ℤ, Some, None, Option, refl, ap, ◌∙◌, append_assoc, w64, arith}
 use borrow.Rule.Slice.PartMut.{put_mid}
 use Rattle.std.specs.List.{AllByRecursion}
 use Rattle.std.proofs.lemmas.Int.{to_z-of_z}
 use Rattle.std.proofs.lemmas.List.{drop_at, length-take-le}
 use Rattle.std.proofs.lemmas.Bool.{lt-ltb}
-use Rattle.book.proofs.Places.{joined_long, slots_read}
+use Rattle.book.proofs.Places.{slots_read}
 use Rattle.segments.specs.declared.lines.Segment.{Segment}
 use Rattle.lowest.specs.declared.entries.Entry.{Entry}
 use Rattle.lowest.specs.Entries.{width, lowest_words, entry_words, table_words, read_entry, Fits, ReadsBack}
@@ -17,9 +17,6 @@ lowest_long (Some m) = refl
 
 pub entry_long : (e : Entry) → length (entry_words e) ≡ width
 entry_long e = omega (arith, lowest_long e.lowest_above)
-
-pub table_long : (es : List Entry) → length (table_words es) ≡ width * length es
-table_long es = joined_long entry_words width entry_long es
 
 -- ---- back from words
 

@@ -1,7 +1,7 @@
 -- The book while its rules are laid.
 use Rattle.std.proofs.Common.{◌≡◌, ℕ, ◌+◌, ◌<◌, ◌≤◌, true, false, ltb, List, length, get_or, take, sym, refl, ap, ◌∙◌, arith}
-use Rattle.std.proofs.lemmas.List.{map_more, get_or-map, length-map, length-take-le, take_all}
-use Rattle.std.proofs.lemmas.Bool.{both_ways, ltb-true, ltb-false}
+use Rattle.std.proofs.lemmas.List.{map_more, get_or-map, length-map, length-take-le}
+use Rattle.std.proofs.lemmas.Bool.{both_ways, ltb-true}
 use Rattle.raise.specs.Rules as rules
 use Rattle.raise.specs.Rules.{pick}
 use Rattle.raise.specs.Calls.{fine, lays, changed}
@@ -37,15 +37,3 @@ module _ (bound : ℕ) (rs : List Rule) (i : ℕ) (b : Book) (h : Laid bound rs 
           fine = rw m (fine_push (all_meant (take i rs)) (meant (get_or rs i d)) h.fine (sym f));
           few = omega (arith, ltb-true _ _ n, length-map (take i rs) meant, length-take-le i rs (omega (arith, lt)));
         }
-
-    pub no_room : has_room b ≡ false → InRange bound (all_meant rs) → ⊥
-    no_room n r =
-        let m : ltb (length (all_meant (take i rs))) 64 ≡ false = ap has_room (sym h.book) ∙ n in
-        let many : 64 < length rs = omega (arith, ltb-false _ _ m, length-map (take i rs) meant, length-take-le i rs (omega (arith, lt)), lt) in
-        absurd (omega (arith, many, r.few, length-map rs meant))
-
-  pub all_laid : bound ≤ 1000000000 → length rs ≤ i → InRange bound (all_meant rs) × (b ≡ book_with bound (all_meant rs))
-  all_laid low le =
-      let t : take i rs ≡ rs = take_all i rs le in
-      let f : all_fine (all_meant rs) ≡ true = rw t at h.fine in
-      (record { low = low; fine = f; few = omega (arith, length-map rs meant, le, h.few) }, rw t at h.book)

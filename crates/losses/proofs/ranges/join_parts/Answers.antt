@@ -1,14 +1,12 @@
 use Rattle.std.proofs.Common.{rules, ◌≡◌, ◌/◌, ◌≤◌, length, take}
 use Rattle.lowest.specs.Entries.{read_entry}
 use Rattle.lowest.specs.Table.{table}
-use Rattle.book.specs.Slots.{StoredBy}
 use Rattle.std.specs.Simd.{first_chunks}
 use Rattle.losses.proofs.Lists.{chunks_read}
 use Rattle.losses.proofs.Walk.{begins, read_sized, passes, last_before, joins, parts, room, ends_count, ends_words, ends_fit}
 use Rattle.losses.proofs.ranges.join_parts.Goals as goal
 
 pub loop-words-init : goal.loop-words-init
-unfolding StoredBy
 loop-words-init c =
     let rs = c.args.book.now.rules in
     let b = c.args.book.now.bound in
