@@ -10,7 +10,7 @@ use Rattle.book.specs.Meant.{all_meant}
 use Rattle.segments.specs.Points.{next_breakpoint, Next}
 use Rattle.segments.specs.Spans.{span, before}
 use Rattle.segments.proofs.Points.{next_breakpoints, span_ends}
-use Rattle.lowest.specs.Below.{nearer_below, greatest_below, breakpoint_below, nearer_end_below, nearest_below}
+use Rattle.lowest.specs.Below.{nearer_below, greatest_below, breakpoint_below, nearer_end_below, nearest_below, BreakpointsBelow}
 
 -- ---- the greatest below
 
@@ -73,10 +73,19 @@ unfolding among breakpoints
 zero_is [] = refl
 zero_is (r ∷ rs) = zero_more r (breakpoints rs) (zero_is rs)
 
+pub breakpoints_below : BreakpointsBelow
+breakpoints_below rs x some =
+    let i = greatest_last (breakpoints rs) x 0 some in
+    record {
+      below = i.below;
+      between = i.between;
+      reached = elim i.reached [ inl in_ys ↦ in_ys | inr none ↦ rw none (zero_is rs) ];
+    }
+
 -- ---- up again
 
 -- no point is inside a clear stretch
-outside : (ys : List ℕ) (from to y : ℕ) → clear ys from to ≡ true → among ys y ≡ true → from < y → y < to → ⊥
+pub outside : (ys : List ℕ) (from to y : ℕ) → clear ys from to ≡ true → among ys y ≡ true → from < y → y < to → ⊥
 unfolding clear among
 outside [] from to y c a lo hi = absurd (let e : ◌≡◌ {A = ℕ} 0 1 = cc in omega arith)
 outside (z ∷ ys) from to y c a lo hi =
@@ -112,12 +121,12 @@ pub is_below : (rs : List Rule) (b x : ℕ) → Stands rs b x → Below rs b x (
 is_below rs b x at =
     let ys = breakpoints rs in
     let y = breakpoint_below rs x in
-    let i = greatest_last ys x 0 at.0 in
+    let i = breakpoints_below rs x at.0 in
     let n = next_breakpoints rs b y (omega (arith, i.below, at.1)) in
     let m : Next ys y (suc b) x = record { above = i.below; within = at.1; between = i.between; reached = at.2 } in
     record {
       less = i.below;
-      point = elim i.reached [ inl in_ys ↦ in_ys | inr none ↦ rw none (zero_is rs) ];
+      point = i.reached;
       next = omega (arith, one_next ys y (suc b) _ x n m, one_next ys y (suc b) x _ m n);
     }
 

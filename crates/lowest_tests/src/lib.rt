@@ -1,7 +1,9 @@
 // Tests of the table of segments, as tables: its entries from the last segment down, where the lowest beyond lies, and the words
-// around it.
+// around it; and of the next breakpoint below.
 #![tactic(auto)]
 
+#[cfg(test)]
+mod below;
 #[cfg(test)]
 mod many;
 #[cfg(test)]

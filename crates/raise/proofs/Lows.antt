@@ -77,7 +77,7 @@ module _ (f : ℕ → ℤ) (from to e : ℕ) (v d : ℤ) (some : from < to) (wit
   least_on = int_min v (on_line from v d (to - 1))
 
   -- a line is least at one of its ends
-  ends_under : (h : ℕ) → from ≤ h → h < to → least_on ≤ℤ f h
+  pub ends_under : (h : ℕ) → from ≤ h → h < to → least_on ≤ℤ f h
   ends_under h lo hi = by_slope d refl
     where
       by_slope : (c : ℤ) → d ≡ c → least_on ≤ℤ f h

@@ -45,10 +45,11 @@ pub fn rates_alone() -> u32
     10000
 }
 
-// The earning that is called safe is, and no smaller one above is; where none is called safe, none is.
+// The earning that is called safe is, and no smaller one above is; where none is called safe, none is. No other answer says that.
 pub fn safe_from()
     ensures stated { SafeFrom }
     ensures told { (rs : List Rule) (b g : ℕ) → SafeTold rs b g (safe_from rs b g) }
+    ensures only { (rs : List Rule) (b g m n : ℕ) → SafeTold rs b g m → SafeTold rs b g n → m ≡ n }
 {}
 
 // The answered row is the first from the asked earning on, from its first to its last; where none is answered, nobody from

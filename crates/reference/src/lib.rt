@@ -1,6 +1,5 @@
-// Row and safe, slowly: searches that try every earning, by the definition itself. This crate owns the slow answers, which
-// are short enough to be checked by eye. A session answers safe by them, until there is a fast one; rows are found by them in
-// tests only, which compare the fast ones with them.
+// Row and safe, slowly: searches that try every earning, by the definition itself. This crate owns the slow answers, which are
+// short enough to be checked by eye, for tests only: these compare the fast ones with them.
 #![tactic(auto)]
 
 ghost use Rattle.std.specs.Prelude.{◌≡◌, suc, ◌-◌, ◌&&◌, nat_lt};

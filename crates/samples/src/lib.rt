@@ -1,12 +1,12 @@
-// Books for tests: of a bound and some rules.
+// Books for tests: of a bound and some rules, and rules to make them of.
 #![tactic(auto)]
 
 ghost use Rattle.std.specs.Prelude.{◌≡◌, OkIff};
 ghost use Rattle.book.specs.Meant.{all_meant};
-ghost use Rattle.samples.specs.Samples.{InRange};
+ghost use Rattle.samples.specs.Samples.{InRange, of_all_kinds};
 
 use book::{Book, is_fine};
-use wire::Rule;
+use wire::{Rule, RuleKind};
 
 const NO_BOOK: &str = "no book has this bound and these rules";
 
@@ -28,4 +28,21 @@ pub fn book_with(bound: u32, rules: &[Rule]) -> Result<Book, &'static str>
         };
     }
     Ok(book)
+}
+
+// Rules of all kinds, by which some lose by the next unit, some by one far above, and some not at all.
+pub fn of_all_kinds() -> [Rule; 9]
+    ensures { all_meant result ≡ of_all_kinds }
+{
+    [
+        RuleKind::Take.rule([3, 9, 12_500]),
+        RuleKind::Give.rule([5, 12, 3_000]),
+        RuleKind::TakeSum.rule([7, 14, 2]),
+        RuleKind::GiveSum.rule([0, 11, 3]),
+        RuleKind::Fade.rule([4, 9_000, 5]),
+        RuleKind::Take.rule([6, 20, 9_999]),
+        RuleKind::Take.rule([13, 15, 20_000]),
+        RuleKind::GiveSum.rule([16, 17, 4]),
+        RuleKind::Fade.rule([10, 0, 1]),
+    ]
 }

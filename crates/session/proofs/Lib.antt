@@ -1,5 +1,6 @@
 pub mod Steps
 pub mod Rows
+pub mod Safe
 pub mod Runs
 pub mod Nothing
 pub mod OnBytes

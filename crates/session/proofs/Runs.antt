@@ -10,7 +10,9 @@ use Rattle.book.specs.Held.{Book, Good, asked, image, with_rules, all_fine}
 use Rattle.book.proofs.Laws.{good_laid, good_lifted, image_long, image_below}
 use Rattle.session.proofs.Steps.{book_after, book_ran, next_behind, says_behind, keeps_behind}
 use Rattle.session.proofs.Rows.{tells_all}
-use Rattle.session.specs.Rows.{AllRows}
+use Rattle.session.proofs.Safe.{tells_safe}
+use Rattle.session.specs.Rows.{TellsAllRows, AllRows}
+use Rattle.session.specs.Safe.{TellsSafe, AllSafe}
 use Rattle.session.specs.Memory.{limited, opening, empty, open_words, opened_words, limits, says_words, next_words, desk, told_words, left_words, is_three, unless_refused, Serves, Opened, Suffices}
 
 -- ---- a good book stays good
@@ -100,6 +102,7 @@ serves ws rules bound few low =
     record {
       right = λ cs. told_behind b ys cs g;
       rows = λ cs. rw (left_behind b ys cs g) (tells_all (book_ran b cs) ys (good_ran b cs g));
+      safe = λ cs. rw (left_behind b ys cs g) (tells_safe (book_ran b cs) ys (good_ran b cs g));
       no_three = λ cs c. ap (λ (us : List ℕ). is_three (says_words us c)) (left_behind b ys cs g) ∙ ap is_three (says_behind (book_ran b cs) ys c (good_ran b cs g)) ∙ answer_not_three (limits b) (ran l [] cs) c;
       keeps = λ cs c h. keeps_later b ys cs c g h;
       behind = λ cs. ap (drop (asked rules)) (left_behind b ys cs g) ∙ drop_at (image (book_ran b cs)) ys (asked rules) (image_long (book_ran b cs) (good_ran b cs g));
@@ -179,12 +182,19 @@ refusal_keeps l cs c h e r t =
     let u : 0 < turned (limits (empty l)) (ran (limits (empty l)) [] cs) c = rw (same_limits l e) t in
     ap (λ (m : Memory). desk.next m c) d ∙ ap (λ (ws : List ℕ). record { words = ws }) (keeps_later (empty l) [] cs c (good_empty l h) u) ∙ sym d
 
-pub all_rows : AllRows thin desk
-all_rows l cs h e r =
-    let b = book_ran (empty l) cs in
+-- what is told on every image is told after every list of calls
+after_calls : (T : Memory → List Rule → ℕ → Type 0) → ((b : Book) → Good b → T (record { words = image b ++ [] }) b.rules b.bound) →
+    (l : Limits) (cs : List Call) → GoodLimits l → l.rules_can ≡ thin → T (left_by desk (desk.opened l) cs) (ran l [] cs) l.bound
+after_calls T tells l cs h e =
     let d = left_opened l cs h ∙ ap (λ (ws : List ℕ). record { words = ws }) (left_behind (empty l) [] cs (good_empty l h)) in
     let z : ran (limits (empty l)) [] cs ≡ ran l [] cs = ap (λ (k : Limits). ran k [] cs) (same_limits l e) in
-    rw (d, ← z) (tells_all b [] (good_ran (empty l) cs (good_empty l h)))
+    rw (d, ← z) (tells (book_ran (empty l) cs) (good_ran (empty l) cs (good_empty l h)))
+
+pub all_rows : AllRows thin desk
+all_rows l cs h e r = after_calls (TellsAllRows desk) (λ b g. tells_all b [] g) l cs h e
+
+pub all_safe : AllSafe thin desk
+all_safe l cs h e r = after_calls (TellsSafe desk) (λ b g. tells_safe b [] g) l cs h e
 
 pub enough_memory : EnoughMemory desk
 enough_memory l cs h r =

@@ -1,4 +1,5 @@
 pub mod Rows
+pub mod Safe
 pub mod Memory
 pub mod Bytes
 pub mod Answered

@@ -5,6 +5,7 @@ use Rattle.raise.specs.Rules.{pick}
 use Rattle.raise.specs.Calls.{Call, Answer, Limits, lays, lifts, left_of, next_row, safe, garbled, refused, number, two, rule_number, fine, turned, changed, answer, answers}
 use Rattle.raise.specs.Promise.{Desk, ran, thin}
 use Rattle.session.specs.Rows.{TellsAllRows}
+use Rattle.session.specs.Safe.{TellsSafe}
 use Rattle.wire.specs.declared.answers.Refusal.{Refusal}
 use Rattle.wire.specs.Meaning.{refusal_number, refusal_place}
 use Rattle.book.specs.Held.{Book, asked, image, book_of, rewritten}
@@ -93,11 +94,12 @@ is_three (number n) = false
 is_three (two m n) = false
 
 -- what an accepted opening makes of any words: from then on, for every list of calls, the answers are those of the written book;
--- all rows are told; 3 never comes; a call that is turned away changes no word; and the words behind those asked for stay as they
--- were before
+-- all rows are told, and from where on each earning is safe; 3 never comes; a call that is turned away changes no word; and the
+-- words behind those asked for stay as they were before
 pub record Serves (l : Limits) (before opened : List ℕ) : Type 0 where
   pub right : (cs : List Call) → told_words opened cs ≡ answers l [] cs
   pub rows : (cs : List Call) → TellsAllRows desk (record { words = left_words opened cs }) (ran l [] cs) l.bound
+  pub safe : (cs : List Call) → TellsSafe desk (record { words = left_words opened cs }) (ran l [] cs) l.bound
   pub no_three : (cs : List Call) (c : Call) → is_three (says_words (left_words opened cs) c) ≡ false
   pub keeps : (cs : List Call) (c : Call) → 0 < turned l (ran l [] cs) c → next_words (left_words opened cs) c ≡ left_words opened cs
   pub behind : (cs : List Call) → drop (asked l.rules) (left_words opened cs) ≡ drop (asked l.rules) before

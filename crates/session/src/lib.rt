@@ -13,6 +13,7 @@ ghost use Rattle.wire.specs.CallBytes.{call_of};
 ghost use Rattle.book.specs.Held.{asked};
 ghost use Rattle.session.specs.Memory.{limited, said_open, opening, open_words, Opened, Suffices, Plain, NothingLaid, says_words, next_words, desk};
 ghost use Rattle.session.specs.Rows.{AllRows};
+ghost use Rattle.session.specs.Safe.{AllSafe};
 ghost use Rattle.session.specs.Bytes.{says_bytes, next_bytes, if_room, RightBytes, ReadBackBytes, RefusalKeepsBytes, EnoughMemoryBytes};
 
 use book::{open_empty, words_asked};
@@ -51,8 +52,9 @@ pub fn open(words: &mut [u64], rules: u32, bound: u32) -> Result<(), Refusal>
 
 // Answers the call that the bytes are. For every list of calls the answers are those of the written book, a call that
 // is turned away changes nothing, and memory stays within what is asked for. Asked for one after the other, the rows that are told
-// are those of all earnings up to the bound at which somebody loses by earning more, from the first to the last, none left out.
-#[tactic(auto, using(crate::proofs::Runs::right, crate::proofs::Runs::refusal_keeps, crate::proofs::Runs::all_rows, crate::proofs::Nothing::all_plain, crate::proofs::Nothing::nothing_laid))]
+// are those of all earnings up to the bound at which somebody loses by earning more, from the first to the last, none left out. The
+// earning that is called safe is, and no smaller one above is; and just where none is, none is called so.
+#[tactic(auto, using(crate::proofs::Runs::right, crate::proofs::Runs::refusal_keeps, crate::proofs::Runs::all_rows, crate::proofs::Runs::all_safe, crate::proofs::Nothing::all_plain, crate::proofs::Nothing::nothing_laid))]
 pub fn call(words: &mut [u64], bytes: &[u8]) -> Answer
     ensures said { says result ≡ says_words words.old (call_of bytes.now) }
     ensures words { words.new ≡ next_words words.old (call_of bytes.now) }
@@ -60,6 +62,7 @@ pub fn call(words: &mut [u64], bytes: &[u8]) -> Answer
     ensures keeps { RefusalKeeps thin desk }
     ensures enough { EnoughMemory desk }
     ensures rows { AllRows thin desk }
+    ensures safe { AllSafe thin desk }
     ensures plain { Plain }
     ensures unlaid { NothingLaid }
 {

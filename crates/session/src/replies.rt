@@ -15,7 +15,7 @@ ghost use Rattle.session.specs.Answered.{Answered, KeptIfRefused, says_or};
 use book::{Book, is_fine, read_book, write_book};
 use losses::row_from;
 use raise::LosingRange;
-use reference::safe_from;
+use safety::safe_from;
 use wire::{Answer, Call, Refusal, Rule, read_call};
 
 // The value, if it is at most so much.

@@ -101,6 +101,30 @@ fn made_good(rt: HostRuntime) -> Result<(), Fail> {
     Ok(())
 }
 
+// A fifth more than all of ten million units is taken, and of each unit above a tenth is left: whoever earned nothing is as well off
+// with thirty million.
+#[test]
+fn up_to_the_greatest_bound(rt: HostRuntime) -> Result<(), Fail> {
+    let table = [
+        (
+            LEFT,
+            MOST,
+            Answer::Two(10_000_000_000_000, 9_030_000_000_000),
+        ),
+        (ROW, 0, Answer::Two(1, 10_000_000)),
+        (ROW, 10_000_000, Answer::Two(0, 0)),
+        (SAFE, 0, Answer::Number(30_000_001)),
+        (SAFE, 9_999_999, Answer::Number(10_000_003)),
+        (SAFE, 10_000_000, Answer::Number(10_000_002)),
+        (SAFE, MOST, Answer::Number(0)),
+    ];
+    let rules = [
+        (TAKE, 0, 10_000_000, 12_000),
+        (TAKE, 10_000_000, MOST, 9_000),
+    ];
+    answers(&rt, &rules, MOST, &table)
+}
+
 #[test]
 fn above_the_bound(rt: HostRuntime) -> Result<(), Fail> {
     let mut words = opened(1, 300)?;

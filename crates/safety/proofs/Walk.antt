@@ -1,0 +1,58 @@
+-- The walk from the bound down: all that it has passed is safe, and the next segment.
+use Rattle.std.proofs.Common.{◌≡◌, ℕ, suc, ◌+◌, ◌-◌, ◌<◌, ◌≤◌, true, false, List, ℤ, Some, None, Option, refl, ◌∙◌, inl, inr, arith}
+use Rattle.std.specs.Option.{is_some}
+use Rattle.std.proofs.lemmas.Bool.{both_ways, cases_lt}
+use Rattle.raise.specs.Rules.{Rule, less_left}
+use Rattle.raise.specs.Net.{net, breakpoints}
+use Rattle.raise.specs.Laws.{SafeOn}
+use Rattle.raise.proofs.Straight.{net_order}
+use Rattle.segments.specs.declared.lines.Segment.{Segment}
+use Rattle.segments.specs.Segments.{SegmentOf}
+use Rattle.lowest.specs.Below.{breakpoint_below}
+use Rattle.lowest.proofs.Points.{breakpoints_below, outside}
+use Rattle.safety.specs.Less.{below_at, LastBelow, LastLess}
+
+-- nothing is above the bound
+pub begins : (rs : List Rule) (b g : ℕ) → SafeOn rs b g (suc b)
+begins rs b g = λ k lo hi. absurd (omega (arith, lo, hi))
+
+pub ends : (rs : List Rule) (b g last : ℕ) → SafeOn rs b g (suc last) → last ≤ g → LastLess rs b g None
+ends rs b g last safe le = λ k lo hi. safe k (omega (arith, lo, le)) hi
+
+-- the segment from the breakpoint below on, or from above it on, goes on past where that was sought from
+pub reaches : (rs : List Rule) (b last : ℕ) (s : Segment) → SegmentOf rs b s → breakpoint_below rs (last + 1) ≤ s.from → s.from ≤ last → last ≤ b → last < s.to
+reaches rs b last s line lo hi within =
+    let i = breakpoints_below rs (last + 1) (omega arith) in
+    elim (cases_lt last s.to) [
+      | inl past ↦ past
+      | inr short ↦
+          elim line.ends.reached [
+            | inl point ↦ absurd (outside (breakpoints rs) (breakpoint_below rs (last + 1)) (last + 1) s.to i.between point (omega (arith, line.ends.above, lo)) (omega (arith, short)))
+            | inr end ↦ absurd (omega (arith, end, short, within))
+          ]
+    ]
+
+-- one segment more, above which all is safe
+module _ {rs : List Rule} {b g last : ℕ} (safe : SafeOn rs b g (suc last)) (m : ℤ) (left : m ≡ net rs g) (s : Segment) (line : SegmentOf rs b s) (above : g < s.from) (ends : last < s.to) where
+  here : (k : ℕ) → s.from ≤ k → k < s.to → less_left rs g k ≡ below_at s m k
+  here k lo hi = net_order rs g k ∙ rw (← line.straight k lo hi, ← left) refl
+
+  beyond : (k : ℕ) → s.to ≤ k → k ≤ b → less_left rs g k ≡ false
+  beyond k past hi = safe k (omega (arith, past, ends)) hi
+
+  pub found : (o : Option ℕ) → is_some o ≡ true → LastBelow s m o → LastLess rs b g o
+  found None some l = absurd (both_ways false refl some)
+  found (Some x) some (lo, hi, less, after) = (
+    omega (arith, lo, above),
+    omega (arith, hi, line.ends.within),
+    here x lo hi ∙ less,
+    λ k past le. elim (cases_lt k s.to) [ inl on ↦ here k (omega (arith, past, lo)) on ∙ after k past on | inr off ↦ beyond k off le ],
+  )
+
+  pub passes : (o : Option ℕ) → is_some o ≡ false → LastBelow s m o → SafeOn rs b g (suc (s.from - 1))
+  passes (Some x) none l k past le = absurd (both_ways true none refl)
+  passes None none l k past le =
+      elim (cases_lt k s.to) [
+        | inl on ↦ let lo : s.from ≤ k = omega (arith, past, above) in here k lo on ∙ l k lo on
+        | inr off ↦ beyond k off le
+      ]

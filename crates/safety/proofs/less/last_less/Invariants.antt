@@ -1,0 +1,9 @@
+use Rattle.std.proofs.Common.{suc, ◌≤◌}
+use Rattle.raise.specs.Laws.{SafeOn}
+use Rattle.safety.proofs.less.last_less.Given as goal
+
+abbrev pub invariant-loop-last : goal.invariant-loop-last
+invariant-loop-last l = (l.last ≤ l.book.bound) × SafeOn l.book.rules l.book.bound l.gross (suc l.last)
+
+abbrev pub decreases-loop-last : goal.decreases-loop-last
+decreases-loop-last l = l.last
