@@ -1,4 +1,5 @@
 pub mod Sums
+pub mod Stored
 pub mod Places
 pub mod Writes
 pub mod Laws

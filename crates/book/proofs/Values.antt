@@ -2,7 +2,7 @@
 use Rattle.std.proofs.Common.{◌≡◌, ℕ, List, get_or, drop, Some, None, Option, sym, refl}
 use Rattle.raise.specs.Rules.{pick, Rule}
 use Rattle.raise.proofs.Picks.{picked, not_picked}
-use Rattle.book.specs.declared.held.Front.{Front}
+use Rattle.book.specs.declared.layout.Front.{Front}
 use Rattle.book.specs.Held.{Book, head_fine, rules_of, width, book_of}
 use Rattle.book.specs.Value.{ReadFrom, ReadIf}
 use Rattle.book.proofs.Laws.{held_good}

@@ -3,7 +3,7 @@ use Rattle.std.specs.Prelude.{◌≡◌, ℕ, ◌≤◌, List, length, Some, Non
 use Rattle.book.specs.Held as held
 use Rattle.book.specs.Held.{Good, asked, book_of}
 use Rattle.book.specs.Meant.{all_meant}
-use Rattle.book.specs.declared.held.Book.TheInside.{Inside}
+use Rattle.book.specs.declared.value.Book.TheInside.{Inside}
 
 abbrev pub stands_for : Inside → held.Book
 stands_for b = record { limit = b.limit; bound = b.bound; rules = all_meant b.rules.items }

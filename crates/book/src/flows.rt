@@ -4,9 +4,9 @@ ghost use Rattle.raise.specs.Rules.{all_plus, all_minus};
 ghost use Rattle.raise.specs.Net.{net};
 ghost use Rattle.book.specs.Held.{AmountsFit};
 
-use crate::held::Book;
 use crate::rules::{Flows, flows_by};
-use raise::fine;
+use crate::value::Book;
+use raise::ten_thousandths;
 
 impl Book {
     // What comes in with the gross, and what goes out. Neither has more than 63 bits.
@@ -16,7 +16,7 @@ impl Book {
         ensures small { (result.inflow < 2 ^ 63) × (result.outflow < 2 ^ 63) }
         ensures fits { AmountsFit }
     {
-        let mut inflow = fine(gross);
+        let mut inflow = ten_thousandths(gross);
         let mut outflow = 0;
         for rule in self.rules() {
             let flows = flows_by(*rule, gross);

@@ -1,10 +1,10 @@
 // One rule: is it in range, and what it lets in and out.
 ghost use Rattle.std.specs.Prelude.{◌≡◌, ◌-◌, ◌*◌, ◌&&◌, nat_le, nat_lt};
 ghost use Rattle.raise.specs.Rules.{pick, lesser, plus, minus};
-ghost use Rattle.raise.specs.Calls.{fine as fine_rule};
+ghost use Rattle.raise.specs.Calls.{fine};
 ghost use Rattle.wire.specs.Meaning.{meant};
 
-use raise::fine;
+use raise::ten_thousandths;
 use wire::Rule;
 
 const MOST_EARNED: u32 = 1_000_000_000;
@@ -23,7 +23,7 @@ pub struct Flows {
 // Borders in order and at most 1,000,000,000, a rate of at most 20,000, a sum of at most 100,000,000.
 #[tactic(auto, unfolding(raise::specs::Calls::fine))]
 pub fn is_fine(rule: Rule) -> bool
-    ensures { result ≡ fine_rule (meant rule) }
+    ensures { result ≡ fine (meant rule) }
 {
     match rule {
         Rule::Take { from, to, rate } | Rule::Give { from, to, rate } => {
@@ -50,7 +50,7 @@ fn by_sum(from: u32, to: u32, sum: u32, gross: u32) -> u64
     ensures { result ≡ pick (nat_le from gross && nat_lt gross to) (10000 * sum) 0 }
 {
     if from <= gross && gross < to {
-        fine(sum)
+        ten_thousandths(sum)
     } else {
         0
     }
@@ -60,7 +60,7 @@ fn by_sum(from: u32, to: u32, sum: u32, gross: u32) -> u64
 fn by_fade(from: u32, rate: u32, sum: u32, gross: u32) -> u64
     ensures { result ≡ 10000 * sum - rate * (gross - from) }
 {
-    fine(sum).saturating_sub(u64::from(rate) * u64::from(gross.saturating_sub(from)))
+    ten_thousandths(sum).saturating_sub(u64::from(rate) * u64::from(gross.saturating_sub(from)))
 }
 
 fn gives(inflow: u64) -> Flows

@@ -3,8 +3,8 @@ use Rattle.std.proofs.Common.{◌≡◌, ℕ, ◌+◌, ◌<◌, ◌≤◌, Bool,
 use Rattle.std.proofs.Math.Bool.{or_assoc}
 use Rattle.std.proofs.lemmas.Bool.{cases_lt, lt-ltb, le-ltb}
 use Rattle.raise.specs.declared.LosingRange.{LosingRange}
-use Rattle.raise.specs.Ranges.{lies_in, lies_in_one, Apart, RangesOf}
-use Rattle.losses.specs.Parts.{lies_if, PartOf}
+use Rattle.raise.specs.Ranges.{lies_in, lies_if, lies_in_one, Apart, RangesOf}
+use Rattle.losses.specs.Parts.{PartOf}
 
 -- ---- where these lie
 

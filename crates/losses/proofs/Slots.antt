@@ -7,7 +7,7 @@ use Rattle.raise.specs.declared.LosingRange.{LosingRange}
 use Rattle.raise.specs.Rules.{Rule, loses}
 use Rattle.raise.specs.Ranges.{lies_in, lies_in_one, Apart, losing_ranges}
 use Rattle.raise.proofs.Ranges.{losing_found}
-use Rattle.book.proofs.Places.{one_written, slots_read}
+use Rattle.book.proofs.Stored.{one_written, slots_read}
 use Rattle.losses.specs.Words.{width, range_words, with_row, how_many, read_range, Fits, ReadsBack, Stored}
 
 range_long : (r : LosingRange) → length (range_words r) ≡ width

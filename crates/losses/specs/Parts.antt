@@ -1,13 +1,8 @@
 -- Who loses on one segment. Definitions only: nothing is assumed.
-use Rattle.std.specs.Prelude.{◌≡◌, ℕ, suc, ◌<◌, ◌≤◌, Bool, false, Some, None, Option, IfSome, ◌==◌}
+use Rattle.std.specs.Prelude.{◌≡◌, ℕ, suc, ◌<◌, ◌≤◌, Bool, Some, None, Option, IfSome, ◌==◌}
 use Rattle.raise.specs.declared.LosingRange.{LosingRange}
 use Rattle.raise.specs.Rules.{pick}
-use Rattle.raise.specs.Ranges.{lies_in}
-
--- does g lie in a range, if there is one
-abbrev pub lies_if : Option LosingRange → ℕ → Bool
-lies_if None g = false
-lies_if (Some r) g = lies_in r g
+use Rattle.raise.specs.Ranges.{lies_if}
 
 -- the part of [from, to) that passes a test is one range, not empty, if there is one
 pub record PartOf (test : ℕ → Bool) (from to : ℕ) (part : Option LosingRange) : Type 0 where

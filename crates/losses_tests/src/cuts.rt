@@ -1,6 +1,6 @@
 // Where a range begins and ends on its segments, and where neighbours join.
 use crate::rows::*;
-use samples::book_with;
+use samples::{MOST, book_with};
 use std::test::Fail;
 use wire::RuleKind;
 

@@ -10,6 +10,4 @@ mod rows;
 #[cfg(test)]
 mod shapes;
 #[cfg(test)]
-mod slow;
-#[cfg(test)]
 mod words;

@@ -1,7 +1,7 @@
 // As many rules as a book can hold.
 use crate::rows::*;
 use losses::words_for;
-use samples::book_with;
+use samples::{MOST, book_with};
 use std::test::Fail;
 use wire::RuleKind;
 

@@ -4,8 +4,6 @@ use losses::{RANGE_WORDS, read_range, row_from, words_for, write_ranges};
 use raise::LosingRange;
 use std::process::Abort;
 
-pub(crate) const MOST: u32 = 1_000_000_000;
-
 // Words for the rows of 64 rules, of which so many are for the table.
 const WORDS: usize = 1032;
 
@@ -41,15 +39,5 @@ pub(crate) fn told(rt: &impl Abort, book: &Book, expected: &[(u32, Option<Losing
     let mut scratch = [BEFORE; WORDS];
     for (gross, row) in expected {
         assert_eq!(rt; row_from(book, &mut scratch, *gross), *row);
-    }
-}
-
-// From each gross up to the bound the row is the one that is found by trying every earning.
-pub(crate) fn as_tried(rt: &impl Abort, book: &Book) {
-    assert!(rt; words_for(book) <= WORDS);
-    let mut scratch = [BEFORE; WORDS];
-    for gross in 0..=book.bound() {
-        let row = row_from(book, &mut scratch, gross);
-        assert_eq!(rt; row, reference::row_from(book, gross));
     }
 }

@@ -1,6 +1,6 @@
 // Which grosses lose: most of these books would get another answer in a wrong way that is easily taken.
 use crate::rows::*;
-use samples::book_with;
+use samples::{MOST, book_with, family};
 use std::test::Fail;
 use wire::RuleKind;
 
@@ -90,16 +90,9 @@ fn fade_and_tax(rt: HostRuntime) -> Result<(), Fail> {
     Ok(())
 }
 
-// A family: 20 % of what is above 1,000, 40 % above 3,000, 200 below 1,500, and 300 that fade by 30 % above 500.
 #[test]
 fn a_family(rt: HostRuntime) -> Result<(), Fail> {
-    let rules = [
-        RuleKind::Take.rule([1_000, 3_000, 2_000]),
-        RuleKind::Take.rule([3_000, 100_000, 4_000]),
-        RuleKind::GiveSum.rule([0, 1_500, 200]),
-        RuleKind::Fade.rule([500, 3_000, 300]),
-    ];
-    let book = book_with(5_000, &rules)?;
+    let book = book_with(5_000, &family())?;
     found(&rt, &book, &[(1_101, 1_499)]);
     let rows = [
         (1_100, Some(range(1_101, 1_499))),

@@ -1,4 +1,4 @@
--- The next breakpoint below: what it is, that the segment from it on ends where it was sought from, and how it is found rule by rule.
+-- The next breakpoint below: what it is, that the segment from it on ends where it was sought from, and how rules find it.
 use Rattle.std.proofs.Common.{◌≡◌, ℕ, zero, suc, ◌-◌, ◌<◌, ◌≤◌, true, ◌&&◌, ◌||◌, eqb, ltb, leb, ◌⊎◌, List, [], ◌∷◌, length, get_or, take, drop, Some, None, Option, sym, refl, ap, ◌∙◌, inl, inr, arith}
 use Rattle.std.proofs.lemmas.List.{take_rest}
 use Rattle.std.proofs.lemmas.Bool.{cases_Bool, cases_lt, or_cases, and_parts, and_cases, and_from, or_left, or_right, le-leb, leb-true, eq-eqb, eqb-true, ltb-true, ltb-false}

@@ -18,7 +18,7 @@ use Rattle.lowest.specs.Below.{greatest_below, breakpoint_below}
 use Rattle.lowest.specs.Entries.{width, entry_words, table_words}
 use Rattle.lowest.specs.Table.{entry, table, most_entries}
 use Rattle.lowest.proofs.Points.{Stands, Below, is_below, by_no_rule}
-use Rattle.book.proofs.Places.{one_written}
+use Rattle.book.proofs.Stored.{one_written}
 use Rattle.lowest.proofs.Words.{entry_long}
 
 module _ (rs : List Rule) (b : ℕ) where

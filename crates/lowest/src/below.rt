@@ -27,7 +27,7 @@ pub(crate) fn nearest_below(span: Span, gross: u32, found: u32) -> u32
     span.to.map_or(found, |to| nearer_below(gross, to, found))
 }
 
-// The greatest breakpoint below the gross, or the one that was found, where that is no less: by the first rule, and the others.
+// The greatest of the point that was found and of the rules' breakpoints below the gross: by the first rule, and the others.
 #[tactic(auto, using(crate::proofs::Points::by_no_rule, crate::proofs::Points::by_rule))]
 fn greatest_below(rules: &[Rule], gross: u32, found: u32) -> u32
     ensures { result ≡ greatest_below (breakpoints (all_meant rules.now)) gross found }
@@ -38,8 +38,8 @@ fn greatest_below(rules: &[Rule], gross: u32, found: u32) -> u32
     greatest_below(rest, gross, nearest_below(span_of(*rule), gross, found))
 }
 
-// The next breakpoint below a gross; below 0 there is none, and it is 0. Any rules will do, those too that no book can hold, so that
-// a `&Book` would ask more.
+// The next breakpoint below a gross; below 0 there is none, and it is 0. Any rules will do, those too that no book can hold, so
+// that a `&Book` would ask more.
 #[tactic(auto, using(crate::proofs::Points::breakpoints_below))]
 pub fn breakpoint_below(rules: &[Rule], gross: u32) -> u32
     ensures below { result ≡ breakpoint_below (all_meant rules.now) gross }

@@ -1,6 +1,6 @@
 // The next breakpoint below a gross.
-use crate::tables::MOST;
 use lowest::breakpoint_below;
+use samples::MOST;
 use std::process::Abort;
 use wire::{Rule, RuleKind};
 
@@ -22,9 +22,9 @@ fn down_to_0(rt: HostRuntime) {
     below(&rt, &rules, &[(8, 7), (9, 7), (10, 9), (u32::MAX, 9)]);
 }
 
-// A rule of each kind, the later with lower breakpoints: each begins and ends by itself.
+// A rule of each kind but fades, the later with lower breakpoints: each begins and ends by itself.
 #[test]
-fn of_each_kind(rt: HostRuntime) {
+fn of_rates_and_sums(rt: HostRuntime) {
     let rules = [
         RuleKind::TakeSum.rule([70, 80, 1]),
         RuleKind::GiveSum.rule([50, 60, 1]),

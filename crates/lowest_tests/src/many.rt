@@ -3,7 +3,7 @@ ghost use Rattle.std.specs.Prelude.{◌<◌};
 
 use crate::tables::*;
 use lowest::{Entry, words_for};
-use samples::book_with;
+use samples::{MOST, book_with};
 use std::test::Fail;
 use wire::RuleKind;
 

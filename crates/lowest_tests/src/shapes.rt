@@ -1,6 +1,6 @@
 // Where the lowest beyond a segment lies.
 use crate::tables::*;
-use samples::book_with;
+use samples::{MOST, book_with, family};
 use std::test::Fail;
 use wire::RuleKind;
 
@@ -119,16 +119,9 @@ fn falling_and_rising(rt: HostRuntime) -> Result<(), Fail> {
     Ok(())
 }
 
-// A family: 20 % of what is above 1,000, 40 % above 3,000, 200 below 1,500, and 300 that fade by 30 % above 500.
 #[test]
 fn a_family(rt: HostRuntime) -> Result<(), Fail> {
-    let rules = [
-        RuleKind::Take.rule([1_000, 3_000, 2_000]),
-        RuleKind::Take.rule([3_000, 100_000, 4_000]),
-        RuleKind::GiveSum.rule([0, 1_500, 200]),
-        RuleKind::Fade.rule([500, 3_000, 300]),
-    ];
-    let book = book_with(5_000, &rules)?;
+    let book = book_with(5_000, &family())?;
     let entries = [
         entry(3_000, 5_001, 26_000_000, 6_000, None),
         entry(1_501, 3_000, 14_008_000, 8_000, Some(26_000_000)),

@@ -1,12 +1,8 @@
 // Books of rules, and what their tables must be.
-use book::{Book, is_fine};
+use book::Book;
 use lowest::{ENTRY_WORDS, Entry, read_entry, words_for, write_table};
 use segments::Segment;
 use std::process::Abort;
-use std::test::Fail;
-use wire::Rule;
-
-pub(crate) const MOST: u32 = 1_000_000_000;
 
 // Room for a table of 64 rules, with words before and behind it.
 const WORDS: usize = 800;

@@ -1,7 +1,7 @@
 // Tables and entries as words.
 use crate::tables::*;
 use lowest::{read_entry, words_for, write_table};
-use samples::book_with;
+use samples::{MOST, book_with};
 use std::test::Fail;
 use wire::RuleKind;
 

@@ -135,20 +135,24 @@ safe_told rs b g = told (safe_from rs b g) refl
 pub safe_from_right : SafeFrom
 safe_from_right rs b g h e = rw e at (safe_told rs b g)
 
--- an earning from which on is safe, and one from which on is not, are two
-apart : (rs : List Rule) (b g h : ℕ) → SafeOn rs b g h → UnsafeOn rs b g h → ⊥
-apart rs b g h safe not = both_ways (less_left rs g not.0) (safe not.0 not.1 not.2) not.3
+-- no earning is both: safe from it on, and not
+not_both : (rs : List Rule) (b g h : ℕ) → SafeOn rs b g h → UnsafeOn rs b g h → ⊥
+not_both rs b g h safe not = both_ways (less_left rs g not.0) (safe not.0 not.1 not.2) not.3
 
 pub one_safe : (rs : List Rule) (b g m n : ℕ) → SafeTold rs b g m → SafeTold rs b g n → m ≡ n
 one_safe rs b g zero zero i j = refl
-one_safe rs b g zero (suc k) i j = absurd (apart rs b g k j.2 (i k j.0 j.1))
-one_safe rs b g (suc h) zero i j = absurd (apart rs b g h i.2 (j h i.0 i.1))
+one_safe rs b g zero (suc k) i j = absurd (not_both rs b g k j.2 (i k j.0 j.1))
+one_safe rs b g (suc h) zero i j = absurd (not_both rs b g h i.2 (j h i.0 i.1))
 one_safe rs b g (suc h) (suc k) i j =
     elim (cases_eq h k) [
       | inl same ↦ ap suc same
       | inr other ↦
           elim (cases_lt h k) [
-            | inl less ↦ absurd (apart rs b g h i.2 (j.3 h i.0 less))
-            | inr not ↦ absurd (apart rs b g k j.2 (i.3 k j.0 (omega (arith, not, other))))
+            | inl less ↦ absurd (not_both rs b g h i.2 (j.3 h i.0 less))
+            | inr not ↦ absurd (not_both rs b g k j.2 (i.3 k j.0 (omega (arith, not, other))))
           ]
     ]
+
+-- so what is told is what the search finds
+pub told_is : (rs : List Rule) (b g n : ℕ) → SafeTold rs b g n → n ≡ safe_from rs b g
+told_is rs b g n told = one_safe rs b g n (safe_from rs b g) told (safe_told rs b g)

@@ -80,8 +80,8 @@ after l rs c = pick (turned l rs c == 0) (changed rs c) rs
 
 -- ---- answers
 
--- the row of earnings that lose whose first is g, given as suc g: one more than its first, and one more than its last; 0 and 0 where
--- 0 is given, that is, where there is no row
+-- the row of earnings that lose whose first is g, given as suc g: one more than its first, and one more than its last; 0 and 0
+-- where 0 is given, that is, where there is no row
 unfoldable pub row_from : Limits → List Rule → ℕ → Answer
 row_from l rs zero = two 0 0
 row_from l rs (suc g) = two (suc g) (pick (first_not rs l.bound g == 0) (suc l.bound) (first_not rs l.bound g - 1))

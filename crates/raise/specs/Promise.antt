@@ -93,7 +93,8 @@ NeverLess =
     (rs : List Rule) (b : ℕ) → ((g : ℕ) → g ≤ b → loses rs b g ≡ false) → (g h : ℕ) → g ≤ h → h ≤ b →
     all_plus rs g + all_minus rs h ≤ all_plus rs h + all_minus rs g
 
--- a border of a rule is an earning at which its rate or its sum begins or ends; a fade's are its own and the last unit at which something is left of it
+-- a border of a rule is an earning at which its rate or its sum begins or ends; a fade's are its own and the last unit at which
+-- something is left of it
 unfoldable pub borders : List Rule → List ℕ
 borders [] = 0 ∷ []
 borders (takes a b r ∷ rs) = a ∷ (b ∷ borders rs)
@@ -108,7 +109,8 @@ unfoldable pub near : List ℕ → ℕ → Bool
 near [] h = false
 near (x ∷ xs) h = (nat_le x (suc h) && nat_le h (suc x)) || near xs h
 
--- where to look: between borders what is left goes in one line, so every loss shows next to a border, at the bound, or at the next unit
+-- where to look: between borders what is left goes in one line, so every loss shows next to a border, at the bound, or at the next
+-- unit
 abbrev pub WhereToLook : Type 0
 WhereToLook =
     (rs : List Rule) (b g : ℕ) → loses rs b g ≡ true → (h : ℕ) × (g < h) × (h ≤ b) × (less_left rs g h ≡ true) × ((near (borders rs) h ≡ true) ⊎ ((h ≡ b) ⊎ (h ≡ suc g)))

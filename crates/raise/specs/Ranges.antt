@@ -4,9 +4,13 @@ use Rattle.std.specs.Option.{option_or}
 use Rattle.raise.specs.declared.LosingRange.{LosingRange}
 use Rattle.raise.specs.Rules.{pick, Rule, loses}
 
--- does g lie in a range; in one of many
+-- does g lie in a range; in one, if there is one; in one of many
 abbrev pub lies_in : LosingRange → ℕ → Bool
 lies_in r g = nat_le r.first g && nat_le g r.last
+
+abbrev pub lies_if : Option LosingRange → ℕ → Bool
+lies_if None g = false
+lies_if (Some r) g = lies_in r g
 
 unfoldable pub lies_in_one : List LosingRange → ℕ → Bool
 lies_in_one [] g = false

@@ -1,11 +1,12 @@
--- What the code's answers stand for: a place as one more than it, or 0; a row as its two places. Definitions only: nothing is assumed.
+-- What the code's answers stand for: an earning as one more than it, and 0 where there is none; a row as its first and its last so.
+-- Definitions only: nothing is assumed.
 use Rattle.std.specs.Prelude.{ℕ, suc, Some, None, Option}
 use Rattle.raise.specs.declared.LosingRange.{LosingRange}
 use Rattle.raise.specs.Calls.{Answer, two}
 
-abbrev pub place_told : Option ℕ → ℕ
-place_told None = 0
-place_told (Some h) = suc h
+abbrev pub gross_told : Option ℕ → ℕ
+gross_told None = 0
+gross_told (Some g) = suc g
 
 abbrev pub row_told : Option LosingRange → Answer
 row_told None = two 0 0

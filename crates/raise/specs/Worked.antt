@@ -1,16 +1,12 @@
 -- Small books, as the worked examples have them. Definitions only: nothing is assumed.
-use Rattle.std.specs.Prelude.{◌≡◌, ℕ, ◌≤◌, Bool, false, ◌&&◌, List, [], ◌∷◌, Some, None, Option, nat_le}
+use Rattle.std.specs.Prelude.{◌≡◌, ℕ, ◌≤◌, List, [], ◌∷◌, Option}
 use Rattle.raise.specs.declared.LosingRange.{LosingRange}
+use Rattle.raise.specs.Ranges.{lies_if}
 use Rattle.raise.specs.Rules.{Rule, takes, takes_sum, fades, loses}
-
--- is g in a row, if there is one
-abbrev pub in_row : Option LosingRange → ℕ → Bool
-in_row None g = false
-in_row (Some row) g = nat_le row.first g && nat_le g row.last
 
 -- of all earnings up to b just those of the row lose
 pub record OnlyRow (rs : List Rule) (b : ℕ) (row : Option LosingRange) : Type 0 where
-  pub just_these : (g : ℕ) → g ≤ b → loses rs b g ≡ in_row row g
+  pub just_these : (g : ℕ) → g ≤ b → loses rs b g ≡ lies_if row g
 
 -- take 0 to 10, 10,000: all of each unit is taken, and no more
 abbrev pub full_tax : List Rule

@@ -15,8 +15,8 @@ pub struct LosingRange {
     pub last: u32,
 }
 
-// The ten-thousandths of whole units.
-pub fn fine(units: u32) -> u64
+// Whole units in ten-thousandths, as all amounts are.
+pub fn ten_thousandths(units: u32) -> u64
     ensures { result ≡ 10000 * units }
 {
     10_000 * u64::from(units)

@@ -3,7 +3,7 @@ use Rattle.std.proofs.Common.{◌≡◌, ℕ, suc, ◌-◌, ◌<◌, false, not,
 use Rattle.std.proofs.lemmas.Bool.{both_ways, not-true, cases_eq, ne_eqb}
 use Rattle.raise.specs.Rules.{Rule, loses, first_losing, first_not}
 use Rattle.raise.specs.Calls.{Limits, two, row_from}
-use Rattle.raise.specs.Told.{place_told}
+use Rattle.raise.specs.Told.{gross_told}
 use Rattle.raise.proofs.Search.{first_found}
 
 module _ (rs : List Rule) (b g first : ℕ) (e : suc first ≡ first_losing rs b g) where
@@ -16,7 +16,7 @@ module _ (rs : List Rule) (b g first : ℕ) (e : suc first ≡ first_losing rs b
         | inr other ↦ omega (arith, j.0)
       ]
 
-  pub row_is : (o : Option ℕ) (last : ℕ) → place_told o ≡ first_not rs b first → MatchOption o (last ≡ b) (λ next. last ≡ next - 1) →
+  pub row_is : (o : Option ℕ) (last : ℕ) → gross_told o ≡ first_not rs b first → MatchOption o (last ≡ b) (λ next. last ≡ next - 1) →
       (l : Limits) → l.bound ≡ b → two (suc first) (suc last) ≡ row_from l rs (first_losing rs b g)
   unfolding row_from
   row_is None last f at l d = rw (at, ← e, d, ← f) refl

@@ -11,7 +11,7 @@ use Rattle.std.specs.List.{FoldsTo}
 use Rattle.std.proofs.iter.runs.Sources.{nat_range_inclusive_steps}
 use Rattle.std.proofs.lemmas.Bool.{cases_Bool}
 use Rattle.raise.specs.Rules.{Rule, less_left, some_less, first_that}
-use Rattle.raise.specs.Told.{place_told}
+use Rattle.raise.specs.Told.{gross_told}
 use Rattle.raise.specs.Net.{net}
 use Rattle.raise.proofs.Straight.{net_order}
 
@@ -36,7 +36,7 @@ module _ {F : Type 0} (R : F → ℕ → Bool → F → Type 0) (f : F) (test : 
   after m n g h one e (inr goes) = let s : n ≡ suc m = omega arith in let t : h ≡ suc g = omega arith in rw (s, t, e) refl
 
   searched : (xs : List ℕ) (o : Option ℕ) (j : F) (s t u : RangeInclusive ℕ) → Yields nat_range_inclusive_steps s xs t → nat_range_inclusive_steps t o u → FoldsTo (λ p x q. R p x false q) f xs j →
-      IfSome o (λ x. (h : F) × R j x true h) → place_told o ≡ first_that test (left s) (range_inclusive_start s)
+      IfSome o (λ x. (h : F) × R j x true h) → gross_told o ≡ first_that test (left s) (range_inclusive_start s)
   unfolding first_that
   searched [] None j s t u same step calls last = let e : left s ≡ 0 = ap left same ∙ step.1.0 in rw e refl
   searched [] (Some x) j s t u same step calls last =
@@ -51,7 +51,7 @@ module _ {F : Type 0} (R : F → ℕ → Bool → F → Type 0) (f : F) (test : 
       ∙ after (left v) (left s) _ _ first.1.1 fails (elim (spent_or_fresh v) [ inl none ↦ inl none | inr fresh ↦ inr (first.1.2 fresh) ])
 
   over : (a b : ℕ) (s u : RangeInclusive ℕ) (o : Option ℕ) (xs : List ℕ) (j : F) → (range_inclusive_start s ≡ a) × (range_inclusive_end s ≡ b) × (range_inclusive_exhausted s ≡ false) →
-      YieldsThen nat_range_inclusive_steps s xs o u → FoldsTo (λ p x q. R p x false q) f xs j → IfSome o (λ x. (h : F) × R j x true h) → place_told o ≡ first_that test (suc b - a) a
+      YieldsThen nat_range_inclusive_steps s xs o u → FoldsTo (λ p x q. R p x false q) f xs j → IfSome o (λ x. (h : F) × R j x true h) → gross_told o ≡ first_that test (suc b - a) a
   over a b s u o xs j (at, to, fresh) (t, yields, step) calls last =
       let l : left s ≡ suc b - a = ap (range_inclusive_len (λ x y. y - x) (range_inclusive_start s) (range_inclusive_end s)) fresh ∙ omega arith in
       searched xs o j s t u yields step calls last ∙ rw (l, at) refl
@@ -60,7 +60,7 @@ module _ {F : Type 0} (R : F → ℕ → Bool → F → Type 0) (f : F) (test : 
 pub found : {F : Type 0} (g : Mut F (Bor ℕ × Unit {0}) Bool) (f : F) (test : ℕ → Bool) → ((x : ℕ) (t : Bool) (q : F) → CalledAt g f x t q → (q ≡ f) × (t ≡ test x)) →
     (a b : ℕ) (s u : RangeInclusive ℕ) (o : Option ℕ) → (range_inclusive_start s ≡ a) × (range_inclusive_end s ≡ b) × (range_inclusive_exhausted s ≡ false) →
     (xs : List ℕ) × (j : F) × YieldsThen nat_range_inclusive_steps s xs o u × FoldsTo (λ p x q. CalledAt g p x false q) f xs j × IfSome o (λ x. (h : F) × CalledAt g j x true h) →
-    place_told o ≡ first_that test (suc b - a) a
+    gross_told o ≡ first_that test (suc b - a) a
 found g f test acts a b s u o new (xs, j, yields, calls, last) = over (CalledAt g) f test acts a b s u o xs j new yields calls last
 
 -- less is left of some earning just if one is found

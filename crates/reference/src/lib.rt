@@ -1,11 +1,11 @@
 // Row and safe, slowly: searches that try every earning, by the definition itself. This crate owns the slow answers, which are
-// short enough to be checked by eye, for tests only: these compare the fast ones with them.
+// short enough to be checked by eye; tests compare the fast ones with them.
 #![tactic(auto)]
 
 ghost use Rattle.std.specs.Prelude.{◌≡◌, suc, ◌-◌, ◌&&◌, nat_lt};
 ghost use Rattle.raise.specs.Rules.{some_less, loses, first_losing, first_not, all_as_much, safe_from};
 ghost use Rattle.raise.specs.Calls.{Limits, row_from};
-ghost use Rattle.raise.specs.Told.{place_told, row_told};
+ghost use Rattle.raise.specs.Told.{gross_told, row_told};
 
 use book::Book;
 use raise::LosingRange;
@@ -26,15 +26,15 @@ fn loses(book: &Book, gross: u32) -> bool
     gross < book.bound() && less_from(book, gross, gross + 1)
 }
 
-// These two differ in a `!`, and each owes a definition of its own.
+// The first that loses, and the first that does not: they differ in a `!`, and each owes a definition of its own.
 fn first_losing(book: &Book, gross: u32) -> Option<u32>
-    ensures { place_told result ≡ first_losing book.now.rules book.now.bound gross }
+    ensures { gross_told result ≡ first_losing book.now.rules book.now.bound gross }
 {
     (gross..=book.bound()).find(|earned| loses(book, *earned))
 }
 
 fn first_not(book: &Book, gross: u32) -> Option<u32>
-    ensures { place_told result ≡ first_not book.now.rules book.now.bound gross }
+    ensures { gross_told result ≡ first_not book.now.rules book.now.bound gross }
 {
     (gross..=book.bound()).find(|earned| !loses(book, *earned))
 }
@@ -60,7 +60,7 @@ fn is_safe(book: &Book, gross: u32, from: u32) -> bool
 
 // The smallest gross above, from which on at least as much is left, if there is one.
 pub fn safe_from(book: &Book, gross: u32) -> Option<u32>
-    ensures { place_told result ≡ safe_from book.now.rules book.now.bound gross }
+    ensures { gross_told result ≡ safe_from book.now.rules book.now.bound gross }
 {
     (gross..=book.bound()).find(|earned| is_safe(book, gross, *earned))
 }

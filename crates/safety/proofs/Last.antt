@@ -11,7 +11,7 @@ use Rattle.segments.specs.declared.lines.Segment.{Segment}
 use Rattle.segments.specs.Segments.{FirstAbove}
 use Rattle.safety.specs.Less.{below_at, LastBelow}
 
--- not below m is above the level one under it
+-- less than m is not more than one under it
 not_below : (m x : ℤ) → lt_z x m ≡ not (lt_z (m -ℤ pos 1) x)
 not_below m x = grind (arith, ints)
 
@@ -20,8 +20,8 @@ as_much m x le = grind (arith, ints, le)
 
 module _ (s : Segment) (m : ℤ) (some : s.from < s.to) where
   -- where neither end is below, nothing is
-  pub nowhere : (z : ℤ) → z ≡ on_line s.from s.net s.slope (s.to - 1) → (z <ℤ m → ⊥) → m ≤ℤ s.net → LastBelow s m None
-  nowhere z e last first g lo hi =
+  pub none_below : (z : ℤ) → z ≡ on_line s.from s.net s.slope (s.to - 1) → (z <ℤ m → ⊥) → m ≤ℤ s.net → LastBelow s m None
+  none_below z e last first g lo hi =
       let x = on_line s.from s.net s.slope (s.to - 1) in
       let u = ends_under (on_line s.from s.net s.slope) s.from s.to s.to s.net s.slope some (omega arith) (λ h lo hi. refl) g lo hi in
       let l : m ≤ℤ z = grind (arith, ints, last) in
@@ -48,13 +48,13 @@ module _ (s : Segment) (m : ℤ) (some : s.from < s.to) where
     at_from : below_at s m s.from ≡ true
     at_from = let z : s.from - s.from ≡ 0 = omega arith in rw z (grind (arith, ints, begins))
 
-    pub above : s.from < x
-    above = leb-false x s.from (grind (arith, below s.from (omega arith) some, at_from))
+    pub past_from : s.from < x
+    past_from = leb-false x s.from (grind (arith, below s.from (omega arith) some, at_from))
 
     pub before_first : LastBelow s m (Some (x - 1))
     before_first = (
-      omega (arith, above),
-      omega (arith, above, first.1),
-      below (x - 1) (omega (arith, above)) (omega (arith, above, first.1)) ∙ ap not (lt-leb x (x - 1) (omega (arith, above))),
-      λ g lo hi. below g (omega (arith, lo, above)) hi ∙ ap not (le-leb x g (omega (arith, lo, above))),
+      omega (arith, past_from),
+      omega (arith, past_from, first.1),
+      below (x - 1) (omega (arith, past_from)) (omega (arith, past_from, first.1)) ∙ ap not (lt-leb x (x - 1) (omega (arith, past_from))),
+      λ g lo hi. below g (omega (arith, lo, past_from)) hi ∙ ap not (le-leb x g (omega (arith, lo, past_from))),
     )

@@ -16,10 +16,10 @@ use Rattle.safety.specs.Less.{below_at, LastBelow, LastLess}
 pub begins : (rs : List Rule) (b g : ℕ) → SafeOn rs b g (suc b)
 begins rs b g = λ k lo hi. absurd (omega (arith, lo, hi))
 
-pub ends : (rs : List Rule) (b g last : ℕ) → SafeOn rs b g (suc last) → last ≤ g → LastLess rs b g None
-ends rs b g last safe le = λ k lo hi. safe k (omega (arith, lo, le)) hi
+pub none_less : (rs : List Rule) (b g last : ℕ) → SafeOn rs b g (suc last) → last ≤ g → LastLess rs b g None
+none_less rs b g last safe le = λ k lo hi. safe k (omega (arith, lo, le)) hi
 
--- the segment from the breakpoint below on, or from above it on, goes on past where that was sought from
+-- a segment that begins at the breakpoint at or below `last`, or between that and `last`, goes on past `last`
 pub reaches : (rs : List Rule) (b last : ℕ) (s : Segment) → SegmentOf rs b s → breakpoint_below rs (last + 1) ≤ s.from → s.from ≤ last → last ≤ b → last < s.to
 reaches rs b last s line lo hi within =
     let i = breakpoints_below rs (last + 1) (omega arith) in
@@ -32,27 +32,27 @@ reaches rs b last s line lo hi within =
           ]
     ]
 
--- one segment more, above which all is safe
-module _ {rs : List Rule} {b g last : ℕ} (safe : SafeOn rs b g (suc last)) (m : ℤ) (left : m ≡ net rs g) (s : Segment) (line : SegmentOf rs b s) (above : g < s.from) (ends : last < s.to) where
+-- one segment more, beyond which all is safe
+module _ {rs : List Rule} {b g last : ℕ} (safe : SafeOn rs b g (suc last)) (m : ℤ) (left : m ≡ net rs g) (s : Segment) (line : SegmentOf rs b s) (past : g < s.from) (ends : last < s.to) where
   here : (k : ℕ) → s.from ≤ k → k < s.to → less_left rs g k ≡ below_at s m k
   here k lo hi = net_order rs g k ∙ rw (← line.straight k lo hi, ← left) refl
 
   beyond : (k : ℕ) → s.to ≤ k → k ≤ b → less_left rs g k ≡ false
-  beyond k past hi = safe k (omega (arith, past, ends)) hi
+  beyond k lo hi = safe k (omega (arith, lo, ends)) hi
 
   pub found : (o : Option ℕ) → is_some o ≡ true → LastBelow s m o → LastLess rs b g o
   found None some l = absurd (both_ways false refl some)
   found (Some x) some (lo, hi, less, after) = (
-    omega (arith, lo, above),
+    omega (arith, lo, past),
     omega (arith, hi, line.ends.within),
     here x lo hi ∙ less,
-    λ k past le. elim (cases_lt k s.to) [ inl on ↦ here k (omega (arith, past, lo)) on ∙ after k past on | inr off ↦ beyond k off le ],
+    λ k next le. elim (cases_lt k s.to) [ inl on ↦ here k (omega (arith, next, lo)) on ∙ after k next on | inr off ↦ beyond k off le ],
   )
 
   pub passes : (o : Option ℕ) → is_some o ≡ false → LastBelow s m o → SafeOn rs b g (suc (s.from - 1))
-  passes (Some x) none l k past le = absurd (both_ways true none refl)
-  passes None none l k past le =
+  passes (Some x) none l k lo le = absurd (both_ways true none refl)
+  passes None none l k lo le =
       elim (cases_lt k s.to) [
-        | inl on ↦ let lo : s.from ≤ k = omega (arith, past, above) in here k lo on ∙ l k lo on
+        | inl on ↦ let from : s.from ≤ k = omega (arith, lo, past) in here k from on ∙ l k from on
         | inr off ↦ beyond k off le
       ]

@@ -14,18 +14,34 @@ fn as_much(rt: HostRuntime) -> Result<(), Fail> {
         &book,
         &[(7, Some(8)), (8, Some(11)), (9, Some(12)), (10, Some(11))],
     );
-    // A ten-thousandth less is left of 12, and of 13 more.
+    // Now a ten-thousandth less is left of 12 than of 9, and of 13 more is.
     let less = [rules[0], RuleKind::Take.rule([11, 12, 1])];
     let book = book_with(30, &less)?;
     safe(&rt, &book, &[(8, Some(11)), (9, Some(13)), (10, Some(11))]);
-    // A ten-thousandth more.
+    // Now a ten-thousandth more is left of 12.
     let more = [rules[0], RuleKind::Give.rule([11, 12, 1])];
     let book = book_with(30, &more)?;
     safe(&rt, &book, &[(8, Some(11)), (9, Some(12)), (10, Some(11))]);
     Ok(())
 }
 
-// From 10 on three tenths of each unit are left: of 13 7.9, of 14 8.2; of 16 8.8, of 17 9.1.
+// Net is not in whole cents: at 8 and 9 it is 8.0001 and 9.0001; at 11 and 12, 8.0001 and 9.0001, or in the second book a
+// ten-thousandth less.
+#[test]
+fn not_rounded(rt: HostRuntime) -> Result<(), Fail> {
+    let rules = [
+        RuleKind::Give.rule([0, 1, 1]),
+        RuleKind::TakeSum.rule([10, 20, 3]),
+        RuleKind::Take.rule([9, 10, 1]),
+    ];
+    let book = book_with(30, &rules[..2])?;
+    safe(&rt, &book, &[(7, Some(8)), (8, Some(11)), (9, Some(12))]);
+    let book = book_with(30, &rules)?;
+    safe(&rt, &book, &[(7, Some(11)), (8, Some(12)), (9, Some(13))]);
+    Ok(())
+}
+
+// From 10 on three tenths of each unit are left: net is 7.9 at 13, 8.2 at 14, 8.8 at 16 and 9.1 at 17.
 #[test]
 fn between_two_grosses(rt: HostRuntime) -> Result<(), Fail> {
     let rules = [
@@ -60,7 +76,7 @@ fn between_two_grosses(rt: HostRuntime) -> Result<(), Fail> {
     Ok(())
 }
 
-// The cut is the first of its segment but one, the last, and one past the last.
+// Whoever earns 9 is safe from the segment's first gross on, its second, its last but one, its last, and from past it.
 #[test]
 fn at_both_ends(rt: HostRuntime) -> Result<(), Fail> {
     let cases = [
@@ -79,8 +95,8 @@ fn at_both_ends(rt: HostRuntime) -> Result<(), Fail> {
     Ok(())
 }
 
-// Everybody from 941 to 1,059 loses. From 1,000 on net falls by one a unit: whoever is on the way down is safe on the way up, and
-// whoever earns its last is, one above.
+// Net rises to 1,000 at 1,000, falls to 940 at 1,060, and rises again: whoever earns 941 to 1,059 is safe only on the way up, where
+// net is as high again; 940 and 1,060, the lowest, are safe one above.
 #[test]
 fn on_the_segment_that_falls(rt: HostRuntime) -> Result<(), Fail> {
     let book = book_with(2_000, &[RuleKind::Take.rule([1_000, 1_060, 20_000])])?;
@@ -107,7 +123,8 @@ fn on_the_segment_that_falls(rt: HostRuntime) -> Result<(), Fail> {
     Ok(())
 }
 
-// What falls is followed by more at once: of whoever is on it just the last, 1,059, has as little as 941, and is safe one above.
+// From 1,060 on 500 are given at once. On the way down 1,059 has least, as much as 941: whoever earns 942 to 1,059 is safe from
+// 1,060 on.
 #[test]
 fn at_the_end_of_what_falls(rt: HostRuntime) -> Result<(), Fail> {
     let rules = [
@@ -129,7 +146,7 @@ fn at_the_end_of_what_falls(rt: HostRuntime) -> Result<(), Fail> {
     Ok(())
 }
 
-// Of 10 to 20 the same is left: as much on a level stretch is safe, a ten-thousandth less is not.
+// Of 10 to 20 the same is left, and as much is enough; in the second book of 16 to 20 a ten-thousandth less is, which is not.
 #[test]
 fn level(rt: HostRuntime) -> Result<(), Fail> {
     let rules = [

@@ -1,10 +1,10 @@
 // The greatest bound, and as many rules as a book can hold.
 use crate::grosses::*;
-use samples::book_with;
+use samples::{MOST, book_with};
 use std::test::Fail;
 use wire::RuleKind;
 
-// From 1 on, at which 50,000 less is given, so many ten-thousandths of each unit are left: the cut is far out, and exact.
+// At 0 a sum of 50,000 is given, from 1 on none, and of each unit so many ten-thousandths are taken. The cut is far out, and exact.
 #[test]
 fn a_slow_rise(rt: HostRuntime) -> Result<(), Fail> {
     let cases = [
@@ -57,7 +57,7 @@ fn all_at_once(rt: HostRuntime) -> Result<(), Fail> {
     Ok(())
 }
 
-// 64 sums of a hundred million over the whole range, each taken at one gross, of which then less is left than of any up to a
+// 64 sums of a hundred million over the whole range, each taken at one gross, of which then less is left than of any less than a
 // hundred million below it: whoever earns one of those is safe one above the last such gross.
 #[test]
 fn a_sum_a_rule(rt: HostRuntime) -> Result<(), Fail> {

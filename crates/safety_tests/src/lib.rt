@@ -9,5 +9,3 @@ mod far;
 mod grosses;
 #[cfg(test)]
 mod shapes;
-#[cfg(test)]
-mod slow;

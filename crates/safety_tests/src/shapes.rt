@@ -1,6 +1,6 @@
 // From where on: one gross above, a breakpoint, the bound, or nowhere.
 use crate::grosses::*;
-use samples::book_with;
+use samples::{MOST, book_with, family};
 use std::test::Fail;
 use wire::RuleKind;
 
@@ -21,7 +21,7 @@ fn one_above(rt: HostRuntime) -> Result<(), Fail> {
     Ok(())
 }
 
-// Nothing is above the bound, nor above any gross beyond it.
+// Nothing up to the bound is above the bound, or above a gross beyond it.
 #[test]
 fn at_the_bound_and_beyond(rt: HostRuntime) -> Result<(), Fail> {
     let book = book_with(0, &[])?;
@@ -36,7 +36,7 @@ fn at_the_bound_and_beyond(rt: HostRuntime) -> Result<(), Fail> {
 }
 
 // A sum of 30 is taken from 10 on, up to before 20. Whoever earns 0 to 9 is safe from 20 on, which is below the bound, at it, or
-// past it; 10 has least, and is safe one above.
+// past it; 10 has least, and is safe one above unless it is the bound.
 #[test]
 fn at_a_breakpoint(rt: HostRuntime) -> Result<(), Fail> {
     let cases = [
@@ -54,9 +54,9 @@ fn at_a_breakpoint(rt: HostRuntime) -> Result<(), Fail> {
     Ok(())
 }
 
-// All of each unit is taken, and a fifth more: nobody is safe anywhere but whoever earns what is beyond.
+// A fifth more than each unit up to 10 is taken. Up to a bound of 10 nobody is safe anywhere; up to 13 all below the bound are.
 #[test]
-fn nowhere(rt: HostRuntime) -> Result<(), Fail> {
+fn nowhere_or_beyond(rt: HostRuntime) -> Result<(), Fail> {
     let rules = [RuleKind::Take.rule([0, 10, 12_000])];
     let book = book_with(10, &rules)?;
     safe(&rt, &book, &[(0, None), (8, None), (9, None), (10, None)]);
@@ -76,7 +76,7 @@ fn nowhere(rt: HostRuntime) -> Result<(), Fail> {
     Ok(())
 }
 
-// Two sums, of which the farther decides for some, and the nearer for those who have less than it leaves.
+// Two sums are taken. Who has more than 21 left is safe only where the farther is behind, others above 5 where the nearer is.
 #[test]
 fn two_sums(rt: HostRuntime) -> Result<(), Fail> {
     let rules = [
@@ -110,17 +110,10 @@ fn two_sums(rt: HostRuntime) -> Result<(), Fail> {
     Ok(())
 }
 
-// A family: 20 % of what is above 1,000, 40 % above 3,000, 200 below 1,500, and 300 that fade by 30 % above 500. 1,300 is not safe
-// from 1,510 on, and from 1,625 on it is.
+// 1,300 is not safe from 1,510 on, and from 1,625 on it is.
 #[test]
 fn a_family(rt: HostRuntime) -> Result<(), Fail> {
-    let rules = [
-        RuleKind::Take.rule([1_000, 3_000, 2_000]),
-        RuleKind::Take.rule([3_000, 100_000, 4_000]),
-        RuleKind::GiveSum.rule([0, 1_500, 200]),
-        RuleKind::Fade.rule([500, 3_000, 300]),
-    ];
-    let book = book_with(5_000, &rules)?;
+    let book = book_with(5_000, &family())?;
     safe(
         &rt,
         &book,

@@ -1,12 +1,15 @@
-// Books for tests: of a bound and some rules, and rules to make them of.
+// For tests only. This crate owns how they make a book, and the rules that several of them make books of.
 #![tactic(auto)]
 
 ghost use Rattle.std.specs.Prelude.{◌≡◌, OkIff};
 ghost use Rattle.book.specs.Meant.{all_meant};
-ghost use Rattle.samples.specs.Samples.{InRange, of_all_kinds};
+ghost use Rattle.samples.specs.Samples.{InRange, family, of_all_kinds};
 
 use book::{Book, is_fine};
 use wire::{Rule, RuleKind};
+
+// The greatest bound that a book may have.
+pub const MOST: u32 = 1_000_000_000;
 
 const NO_BOOK: &str = "no book has this bound and these rules";
 
@@ -15,7 +18,7 @@ const NO_BOOK: &str = "no book has this bound and these rules";
 pub fn book_with(bound: u32, rules: &[Rule]) -> Result<Book, &'static str>
     ensures { OkIff result (InRange bound (all_meant rules.now)) (record { limit = 64; bound = bound; rules = all_meant rules.now }) }
 {
-    if bound > 1_000_000_000 {
+    if bound > MOST {
         return Err(NO_BOOK);
     }
     let mut book = Book::new(64, bound);
@@ -31,7 +34,7 @@ pub fn book_with(bound: u32, rules: &[Rule]) -> Result<Book, &'static str>
 }
 
 // Rules of all kinds, by which some lose by the next unit, some by one far above, and some not at all.
-pub fn of_all_kinds() -> [Rule; 9]
+pub fn rules_of_all_kinds() -> [Rule; 9]
     ensures { all_meant result ≡ of_all_kinds }
 {
     [
@@ -44,5 +47,17 @@ pub fn of_all_kinds() -> [Rule; 9]
         RuleKind::Take.rule([13, 15, 20_000]),
         RuleKind::GiveSum.rule([16, 17, 4]),
         RuleKind::Fade.rule([10, 0, 1]),
+    ]
+}
+
+// A family: 20 % of what is above 1,000 is taken, 40 % above 3,000; 200 are given below 1,500, and 300 that fade by 30 % above 500.
+pub fn family() -> [Rule; 4]
+    ensures { all_meant result ≡ family }
+{
+    [
+        RuleKind::Take.rule([1_000, 3_000, 2_000]),
+        RuleKind::Take.rule([3_000, 100_000, 4_000]),
+        RuleKind::GiveSum.rule([0, 1_500, 200]),
+        RuleKind::Fade.rule([500, 3_000, 300]),
     ]
 }

@@ -4,7 +4,7 @@ ghost use Rattle.raise.specs.Net.{on_line};
 ghost use Rattle.segments.specs.Segments.{segment_at, SegmentOf, Sized, SegmentsCover, FirstAbove};
 
 use crate::breakpoints::next_breakpoint;
-use crate::slopes::{holding_at, slope_by};
+use crate::slopes::{holding_at, slope_on};
 use book::Book;
 
 // The grosses from `from` on, before `to`; what is left of `from`, and by how much net rises for each unit more.
@@ -73,6 +73,6 @@ pub fn segment_from(book: &Book, from: u32) -> Segment
         from,
         to: next_breakpoint(rules, book.bound(), from),
         net: book.net_of(from),
-        slope: slope_by(book, holding_at(rules, from)),
+        slope: slope_on(book, holding_at(rules, from)),
     }
 }

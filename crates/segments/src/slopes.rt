@@ -35,7 +35,7 @@ pub fn holding_at(rules: &[Rule], gross: u32) -> u64
 
 // How fast net rises where just the rules hold whose bits are set: by the unit itself, and by what they do.
 #[tactic(auto, using(crate::proofs::Paces::sum_fits), unfolding(crate::specs::Bits::slope_on))]
-pub(crate) fn slope_by(book: &Book, holding: u64) -> i64
+pub(crate) fn slope_on(book: &Book, holding: u64) -> i64
     ensures { result ≡ slope_on (marked holding) book.now.rules }
 {
     let rules = book.rules();

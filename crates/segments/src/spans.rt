@@ -18,7 +18,7 @@ pub struct Span {
 fn faded_at(from: u32, rate: u32, sum: u32) -> Option<u64>
     ensures { result ≡ (span (fades from rate sum)).to }
 {
-    let units = raise::fine(sum).checked_div(u64::from(rate))?;
+    let units = raise::ten_thousandths(sum).checked_div(u64::from(rate))?;
     Some(u64::from(from) + units + 1)
 }
 

@@ -1,11 +1,8 @@
 // Books of rules, and tables of what their segments must be.
-use book::{Book, is_fine};
+use book::Book;
 use segments::{Segment, holding_at, next_breakpoint, segment_from};
 use std::process::Abort;
 use std::test::Fail;
-use wire::Rule;
-
-pub(crate) const MOST: u32 = 1_000_000_000;
 
 // The segment from its first gross on is this.
 pub(crate) fn is(rt: &impl Abort, book: &Book, expected: Segment) -> Result<(), Fail> {

@@ -1,6 +1,6 @@
 // Rules of every kind, and breakpoints at the edges.
 use crate::books::*;
-use samples::book_with;
+use samples::{MOST, book_with, family};
 use segments::{Span, span_of};
 use std::test::Fail;
 use wire::RuleKind;
@@ -100,17 +100,11 @@ fn at_the_edges(rt: HostRuntime) -> Result<(), Fail> {
     cut(&rt, &book, &[(5, 20_000, 10_000), (6, 50_000, 10_000)])
 }
 
-// Taxes, a lunch that ends at 1,500, and an aid that fades above 500 and is used up at 1,500. Between the two breakpoints, 1,500 and
-// 1,501, lies a segment of one gross, with the slope of the aid; from 1,501 on net rises faster.
+// Taxes, a lunch that ends at 1,500, and an aid that fades above 500 and is used up at 1,500. Between the two breakpoints, 1,500
+// and 1,501, lies a segment of one gross, with the slope of the aid; from 1,501 on net rises faster.
 #[test]
 fn of_a_family(rt: HostRuntime) -> Result<(), Fail> {
-    let rules = [
-        RuleKind::Take.rule([1_000, 3_000, 2_000]),
-        RuleKind::Take.rule([3_000, 100_000, 4_000]),
-        RuleKind::GiveSum.rule([0, 1_500, 200]),
-        RuleKind::Fade.rule([500, 3_000, 300]),
-    ];
-    let book = book_with(5_000, &rules)?;
+    let book = book_with(5_000, &family())?;
     let segments = [
         (500, 5_000_000, 10_000),
         (1_000, 10_000_000, 7_000),

@@ -1,6 +1,6 @@
 // As many rules as a book can hold.
 use crate::books::*;
-use samples::book_with;
+use samples::{MOST, book_with};
 use segments::Segment;
 use std::test::Fail;
 use wire::{Rule, RuleKind};

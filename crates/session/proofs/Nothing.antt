@@ -1,11 +1,12 @@
 -- A book without rules: what is earned is what is left, nobody loses, and the next unit is safe, up to the bound.
-use Rattle.std.proofs.Common.{◌≡◌, ℕ, zero, suc, ◌+◌, ◌-◌, ◌*◌, ◌<◌, ◌≤◌, Bool, true, false, not, ◌&&◌, eqb, ltb, leb, List, [], ◌∷◌, map, sym, refl, ap, ◌∙◌, inl, inr, arith}
-use Rattle.std.proofs.lemmas.Bool.{le-ltb, lt-ltb, or_from, and_from, and_left, and_parts, not-true, cases_Bool}
+use Rattle.std.proofs.Common.{◌≡◌, ℕ, zero, suc, ◌+◌, ◌-◌, ◌*◌, ◌<◌, ◌≤◌, Bool, true, false, not, eqb, ltb, leb, List, [], ◌∷◌, map, sym, refl, ap, ◌∙◌, inl, inr, arith}
+use Rattle.std.proofs.lemmas.Bool.{le-ltb, or_from, and_parts, not-true, cases_Bool}
 use Rattle.std.proofs.lemmas.Bool.Decides.{nat_tests}
-use Rattle.raise.specs.Rules.{pick, Rule, all_plus, all_minus, less_left, some_less, loses, first_that, all_as_much, safe_from}
+use Rattle.raise.specs.Rules.{pick, Rule, all_plus, all_minus, less_left, some_less, loses, first_that, safe_from}
 use Rattle.raise.specs.Calls.{Call, Answer, Limits, lays, lifts, left_of, next_row, safe, garbled, turned, place, changed, after, told, row_from, answer, answers}
-use Rattle.raise.proofs.Search.{not_less}
-use Rattle.session.specs.Memory.{limits, empty, lays_one, lays_nothing, plain, no_kinds, Plain, NothingLaid}
+use Rattle.raise.proofs.Search.{told_is}
+use Rattle.session.specs.Memory.{limits, empty}
+use Rattle.session.specs.Nothing.{lays_one, lays_nothing, plain, no_kinds, Plain, NothingLaid}
 use Rattle.session.proofs.Runs.{told_opened}
 
 never_less : (g h : ℕ) → g ≤ h → less_left [] g h ≡ false
@@ -17,40 +18,17 @@ unfolding some_less
 none_less g zero h l = refl
 none_less g (suc n) h l = or_from (less_left [] g h) (some_less [] g n (suc h)) (never_less g h l) (none_less g n (suc h) (omega arith))
 
-as_much : (g n h : ℕ) → g ≤ h → all_as_much [] g n h ≡ true
-as_much g n h l = not_less [] g n h ∙ ap not (none_less g n h l)
-
 none_loses : (b n g : ℕ) → first_that (loses [] b) n g ≡ 0
 unfolding first_that
 none_loses b zero g = refl
 none_loses b (suc n) g = ap (λ (t : Bool). pick t (suc g) (first_that (loses [] b) n (suc g))) (none_less g (b - g) (suc g) (omega arith)) ∙ none_loses b n (suc g)
 
--- the test that safe_from makes
-abbrev safe_test : ℕ → ℕ → ℕ → Bool
-safe_test b g h = ltb g h && all_as_much [] g (suc b - h) h
-
-not_itself : (b g : ℕ) → safe_test b g g ≡ false
-not_itself b g = and_left (ltb g g) (all_as_much [] g (suc b - g) g) (le-ltb g g (omega arith))
-
-the_next : (b g n : ℕ) → first_that (safe_test b g) (suc n) (suc g) ≡ g + 2
-unfolding first_that
-the_next b g n =
-    ap (λ (t : Bool). pick t (suc (suc g)) (first_that (safe_test b g) n (suc (suc g)))) (and_from (ltb g (suc g)) (all_as_much [] g (suc b - suc g) (suc g)) (lt-ltb g (suc g) (omega arith)) (as_much g (suc b - suc g) (suc g) (omega arith))) ∙ omega arith
-
-after_itself : (b g n : ℕ) → first_that (safe_test b g) (suc n) g ≡ first_that (safe_test b g) n (suc g)
-unfolding first_that
-after_itself b g n = ap (λ (t : Bool). pick t (suc g) (first_that (safe_test b g) n (suc g))) (not_itself b g)
-
 safe_next : (b g : ℕ) → g < b → safe_from [] b g ≡ g + 2
 safe_next b g l =
-    let s : suc b - g ≡ suc (suc (b - suc g)) = omega arith in
-    ap (λ (n : ℕ). first_that (safe_test b g) n g) s ∙ after_itself b g (suc (b - suc g)) ∙ the_next b g (b - suc g)
+    sym (told_is [] b g (suc (suc g)) (omega arith, l, λ k lo hi. never_less g k (omega (arith, lo)), λ j lo hi. absurd (omega (arith, lo, hi)))) ∙ omega arith
 
 safe_last : (b g : ℕ) → g ≡ b → safe_from [] b g ≡ 0
-unfolding first_that
-safe_last b g e =
-    let s : suc b - g ≡ suc zero = omega arith in
-    ap (λ (n : ℕ). first_that (safe_test b g) n g) s ∙ after_itself b g zero
+safe_last b g e = sym (told_is [] b g 0 (λ j lo hi. absurd (omega (arith, lo, hi, e))))
 
 same : (t : Bool) → pick {A = List Rule} t [] [] ≡ []
 same true = refl

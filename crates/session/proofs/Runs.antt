@@ -191,10 +191,10 @@ after_calls T tells l cs h e =
     rw (d, ← z) (tells (book_ran (empty l) cs) (good_ran (empty l) cs (good_empty l h)))
 
 pub all_rows : AllRows thin desk
-all_rows l cs h e r = after_calls (TellsAllRows desk) (λ b g. tells_all b [] g) l cs h e
+all_rows l cs h e = after_calls (TellsAllRows desk) (λ b g. tells_all b [] g) l cs h e
 
 pub all_safe : AllSafe thin desk
-all_safe l cs h e r = after_calls (TellsSafe desk) (λ b g. tells_safe b [] g) l cs h e
+all_safe l cs h e = after_calls (TellsSafe desk) (λ b g. tells_safe b [] g) l cs h e
 
 pub enough_memory : EnoughMemory desk
 enough_memory l cs h r =

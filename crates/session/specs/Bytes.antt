@@ -48,7 +48,7 @@ RefusalKeepsBytes =
     (ws : List ℕ) (l : Limits) (bss : List (List ℕ)) (bs : List ℕ) → l.rules_can ≡ thin → opening ws l ≡ number 0 → 0 < turned l (ran l [] (map call_of bss)) (call_of bs) →
     next_bytes (left_bytes (open_words ws l) bss) bs ≡ left_bytes (open_words ws l) bss
 
--- the words asked for are at most 64 a rule and 256 more; each of them stays within 64 bits, and those behind them stay as they were
+-- the words asked for are at most 64 a rule and 256 more; each stays within 64 bits, and those behind them stay as they were
 abbrev pub EnoughMemoryBytes : Type 0
 EnoughMemoryBytes =
     (ws : List ℕ) (l : Limits) (bss : List (List ℕ)) → opening ws l ≡ number 0 →

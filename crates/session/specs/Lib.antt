@@ -1,5 +1,6 @@
 pub mod Rows
 pub mod Safe
 pub mod Memory
+pub mod Nothing
 pub mod Bytes
 pub mod Answered

@@ -1,8 +1,8 @@
--- What open and call make of lent words, whatever the words are; the desk made of these; and what is promised of whole sessions.
--- Nothing is assumed.
-use Rattle.std.specs.Prelude.{◌≡◌, ℕ, ◌+◌, ◌*◌, ◌<◌, ◌≤◌, Bool, true, false, not, ◌&&◌, List, [], ◌∷◌, ◌++◌, map, length, drop, replicate, Some, None, Ok, Err, Option, Result, ◌==◌, nat_le, nat_lt}
+-- What open and call make of lent words, whatever the words are; the desk made of these; and what an opening promises of whole
+-- sessions. Definitions and statements only: nothing is assumed.
+use Rattle.std.specs.Prelude.{◌≡◌, ℕ, ◌+◌, ◌*◌, ◌<◌, ◌≤◌, Bool, false, List, [], ◌∷◌, ◌++◌, length, drop, replicate, Some, None, Ok, Err, Option, Result, ◌==◌, nat_lt}
 use Rattle.raise.specs.Rules.{pick}
-use Rattle.raise.specs.Calls.{Call, Answer, Limits, lays, lifts, left_of, next_row, safe, garbled, refused, number, two, rule_number, fine, turned, changed, answer, answers}
+use Rattle.raise.specs.Calls.{Call, Answer, Limits, lays, lifts, left_of, next_row, safe, garbled, refused, number, two, turned, changed, answer, answers}
 use Rattle.raise.specs.Promise.{Desk, ran, thin}
 use Rattle.session.specs.Rows.{TellsAllRows}
 use Rattle.session.specs.Safe.{TellsSafe}
@@ -113,44 +113,3 @@ Opened l (two m n) before opened = Serves l before opened
 -- 64 words a rule and 256 more are always enough to open a book within limits
 abbrev pub Suffices : Limits → List ℕ → Answer → Type 0
 Suffices l ws a = l.rules ≤ 64 → l.bound ≤ 1000000000 → 64 * l.rules + 256 ≤ length ws → a ≡ number 0
-
--- ---- books without rules
-
--- does a call lay a rule in range, of a kind that can be done
-abbrev pub lays_one : (ℕ → Bool) → Call → Bool
-lays_one can (lays r) = can (rule_number r) && fine r
-lays_one can (lifts i) = false
-lays_one can (left_of g) = false
-lays_one can (next_row g) = false
-lays_one can (safe g) = false
-lays_one can (garbled n) = false
-
-unfoldable pub lays_nothing : (ℕ → Bool) → List Call → Bool
-lays_nothing can [] = true
-lays_nothing can (c ∷ cs) = not (lays_one can c) && lays_nothing can cs
-
-abbrev pub in_bound : ℕ → ℕ → Answer → Answer
-in_bound b g a = pick (nat_le g b) a (refused 2 0)
-
--- what is answered up to a bound where no rule is laid, in plain words: there is none to lift; all that is earned is left;
--- nobody loses; the next unit is safe, unless it lies above the bound
-abbrev pub plain : ℕ → Call → Answer
-plain b (lays r) = refused 2 0
-plain b (lifts i) = refused 4 0
-plain b (left_of g) = in_bound b g (two (10000 * g) 0)
-plain b (next_row g) = in_bound b g (two 0 0)
-plain b (safe g) = in_bound b g (number (pick (nat_lt g b) (g + 2) 0))
-plain b (garbled n) = refused 1 n
-
--- a book that can do no kind of rule answers just that, to every list of calls
-abbrev pub no_kinds : ℕ → Bool
-no_kinds k = false
-
-abbrev pub Plain : Type 0
-Plain = (n b : ℕ) (cs : List Call) → answers (record { rules_can = no_kinds; rules = n; bound = b }) [] cs ≡ map (plain b) cs
-
--- and so does this stage, to every list of calls that lays nothing, whatever else it asks and however it asks to lay
-abbrev pub NothingLaid : Type 0
-NothingLaid =
-    (ws : List ℕ) (l : Limits) (cs : List Call) → opening ws l ≡ number 0 → lays_nothing thin cs ≡ true →
-    told_words (open_words ws l) cs ≡ answers (record { rules_can = no_kinds; rules = l.rules; bound = l.bound }) [] cs

@@ -1,9 +1,9 @@
--- All rows of a book, told by asking for one after the other. Nothing is assumed.
-use Rattle.std.specs.Prelude.{◌≡◌, ℕ, suc, Bool, true, List, [], ◌∷◌, Some, None}
+-- All rows of a book, told by asking for one after the other. Definitions and statements only: nothing is assumed.
+use Rattle.std.specs.Prelude.{◌≡◌, ℕ, suc, Bool, List, [], ◌∷◌, Some, None}
 use Rattle.raise.specs.declared.LosingRange.{LosingRange}
 use Rattle.raise.specs.Calls.{Call, Limits, next_row}
 use Rattle.raise.specs.Rules.{Rule}
-use Rattle.raise.specs.Promise.{Memory, Desk, GoodLimits, all_readable, left_by, ran}
+use Rattle.raise.specs.Promise.{Memory, Desk, GoodLimits, left_by, ran}
 use Rattle.raise.specs.Ranges.{LosingRanges}
 use Rattle.raise.specs.Told.{row_told}
 
@@ -12,11 +12,11 @@ unfoldable pub TellsRows : Desk → Memory → ℕ → List LosingRange → Type
 TellsRows d m g [] = d.says m (next_row g) ≡ row_told None
 TellsRows d m g (r ∷ rows) = (d.says m (next_row g) ≡ row_told (Some r)) × TellsRows d (d.next m (next_row g)) (suc r.last) rows
 
--- Of all earnings up to a bound of a billion, the rows of those at which somebody loses by earning more, each from its first to
--- its last, with none between them and none left out
+-- of all earnings up to a bound, the rows of those at which somebody loses by earning more, each from its first to its last, with
+-- none between them and none left out
 unfoldable pub TellsAllRows : Desk → Memory → List Rule → ℕ → Type 0
 TellsAllRows d m rs b = (rows : List LosingRange) × LosingRanges rs b rows × TellsRows d m 0 rows
 
--- so told after any list of calls, of the rules that the book then has
+-- so told after any list of calls, of the rules that the book then has, up to any bound within a billion
 abbrev pub AllRows : (ℕ → Bool) → Desk → Type 0
-AllRows can d = (l : Limits) (cs : List Call) → GoodLimits l → l.rules_can ≡ can → all_readable cs ≡ true → TellsAllRows d (left_by d (d.opened l) cs) (ran l [] cs) l.bound
+AllRows can d = (l : Limits) (cs : List Call) → GoodLimits l → l.rules_can ≡ can → TellsAllRows d (left_by d (d.opened l) cs) (ran l [] cs) l.bound

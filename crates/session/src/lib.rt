@@ -1,6 +1,6 @@
-// The session: a book is opened in lent words, and from then on each call, as bytes, gets its answer. The words are all
-// the state, nothing is allocated, and a call that is turned away changes nothing.
-// Any words and any bytes may be handed in: what cannot serve is refused.
+// The session: a book is opened in lent words, and from then on each call, as bytes, gets its answer. This crate owns open, call
+// and serve, in which order refusals come, and what is promised of whole lists of calls. The words are all the state, nothing is
+// allocated, and any words and any bytes may be handed in: what cannot serve is refused.
 #![tactic(auto)]
 
 mod replies;
@@ -11,7 +11,8 @@ ghost use Rattle.raise.specs.Promise.{thin, Right, RefusalKeeps, EnoughMemory};
 ghost use Rattle.wire.specs.Meaning.{says};
 ghost use Rattle.wire.specs.CallBytes.{call_of};
 ghost use Rattle.book.specs.Held.{asked};
-ghost use Rattle.session.specs.Memory.{limited, said_open, opening, open_words, Opened, Suffices, Plain, NothingLaid, says_words, next_words, desk};
+ghost use Rattle.session.specs.Memory.{limited, said_open, opening, open_words, Opened, Suffices, says_words, next_words, desk};
+ghost use Rattle.session.specs.Nothing.{Plain, NothingLaid};
 ghost use Rattle.session.specs.Rows.{AllRows};
 ghost use Rattle.session.specs.Safe.{AllSafe};
 ghost use Rattle.session.specs.Bytes.{says_bytes, next_bytes, if_room, RightBytes, ReadBackBytes, RefusalKeepsBytes, EnoughMemoryBytes};
@@ -20,7 +21,7 @@ use book::{open_empty, words_asked};
 use replies::{at_most, reply};
 use wire::{Answer, Refusal};
 
-// How many words a limit of so many rules asks for, if there are so many: each check of an opening hands on a value.
+// How many words a limit of so many rules asks for, if there are so many.
 fn room_for(words: &[u64], rules: u32) -> Option<usize>
     ensures { result ≡ pick (nat_le (asked rules) (length words.now)) (Some (asked rules)) None }
 {
@@ -52,8 +53,8 @@ pub fn open(words: &mut [u64], rules: u32, bound: u32) -> Result<(), Refusal>
 
 // Answers the call that the bytes are. For every list of calls the answers are those of the written book, a call that
 // is turned away changes nothing, and memory stays within what is asked for. Asked for one after the other, the rows that are told
-// are those of all earnings up to the bound at which somebody loses by earning more, from the first to the last, none left out. The
-// earning that is called safe is, and no smaller one above is; and just where none is, none is called so.
+// are those of all earnings up to the bound at which somebody loses by earning more, from the first to the last, none left out. For
+// each earning up to the bound the smallest larger one is told from which on at least as much is left, or that there is none.
 #[tactic(auto, using(crate::proofs::Runs::right, crate::proofs::Runs::refusal_keeps, crate::proofs::Runs::all_rows, crate::proofs::Runs::all_safe, crate::proofs::Nothing::all_plain, crate::proofs::Nothing::nothing_laid))]
 pub fn call(words: &mut [u64], bytes: &[u8]) -> Answer
     ensures said { says result ≡ says_words words.old (call_of bytes.now) }
@@ -69,8 +70,8 @@ pub fn call(words: &mut [u64], bytes: &[u8]) -> Answer
     reply(words, bytes).unwrap_or_else(Answer::Refused)
 }
 
-// The same with the answer's 24 bytes in `out`, and how many were written: none, and nothing is changed, where `out` is
-// too short: then nothing is asked of the book. A count and no `Option`: its clauses give callers just that.
+// The same with the answer's 24 bytes in `out`, and how many were written. Where `out` is too short none are, and nothing is asked
+// of the book or changed. A count and no `Option`: its clauses give callers just that.
 #[tactic(auto, using(crate::proofs::OnBytes::right_bytes, crate::proofs::OnBytes::read_back_bytes, crate::proofs::OnBytes::refusal_keeps_bytes))]
 pub fn serve(words: &mut [u64], bytes: &[u8], out: &mut [u8]) -> usize
     ensures count { result ≡ if_room out.old 24 0 }

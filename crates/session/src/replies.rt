@@ -3,9 +3,9 @@
 
 ghost use Rattle.std.specs.Prelude.{◌≡◌, ◌≤◌, ◌&&◌, length, Some, None, nat_le};
 ghost use Rattle.raise.specs.Rules.{pick};
-ghost use Rattle.raise.specs.Calls.{lays, lifts, left_of, next_row, safe, number, rule_number, fine as fine_rule};
+ghost use Rattle.raise.specs.Calls.{lays, lifts, left_of, next_row, safe, number, rule_number, fine};
 ghost use Rattle.raise.specs.Promise.{thin};
-ghost use Rattle.raise.specs.Told.{place_told, row_told};
+ghost use Rattle.raise.specs.Told.{gross_told, row_told};
 ghost use Rattle.wire.specs.Meaning.{meant, asks, says};
 ghost use Rattle.wire.specs.CallBytes.{call_of};
 ghost use Rattle.session.specs.Memory.{says_words, next_words};
@@ -35,7 +35,7 @@ fn can_do(rule: Rule) -> bool
 
 // The rule, if it is of a kind that can be done, and in range.
 fn admit(rule: Rule) -> Option<Rule>
-    ensures { result ≡ pick (thin (rule_number (meant rule)) && fine_rule (meant rule)) (Some rule) None }
+    ensures { result ≡ pick (thin (rule_number (meant rule)) && fine (meant rule)) (Some rule) None }
 {
     (can_do(rule) && is_fine(rule)).then_some(rule)
 }
@@ -72,7 +72,7 @@ fn tell_left(book: &Book, gross: u32) -> Result<Answer, Refusal>
     Ok(Answer::Two(flows.inflow, flows.outflow))
 }
 
-// Each place as one more than it is, or 0, as answers have it. No `From`: an answer and a row are both of other crates.
+// Each gross of a row as one more than it is, or 0, as answers have it. No `From`: an answer and a row are both of other crates.
 fn row_answer(row: Option<LosingRange>) -> Answer
     ensures { says result ≡ row_told row }
 {
@@ -94,12 +94,12 @@ fn tell_row(book: &Book, scratch: &mut [u64], gross: u32) -> Result<Answer, Refu
     Ok(row_answer(row_from(book, scratch, gross)))
 }
 
-// Likewise.
-fn place_answer(place: Option<u32>) -> Answer
-    ensures { says result ≡ number (place_told place) }
+// A safe gross as one more than it is, or 0, likewise.
+fn safe_answer(gross: Option<u32>) -> Answer
+    ensures { says result ≡ number (gross_told gross) }
 {
-    match place {
-        Some(place) => Answer::Number(u64::from(place) + 1),
+    match gross {
+        Some(gross) => Answer::Number(u64::from(gross) + 1),
         None => Answer::Number(0),
     }
 }
@@ -111,7 +111,7 @@ fn tell_safe(book: &Book, gross: u32) -> Result<Answer, Refusal>
     let Some(gross) = at_most(gross, book.bound()) else {
         return Err(Refusal::OutOfRange);
     };
-    Ok(place_answer(safe_from(book, gross)))
+    Ok(safe_answer(safe_from(book, gross)))
 }
 
 // The answer to a call on a book, and the book after it. A call that is turned away leaves the scratch as it was, too.

@@ -142,13 +142,14 @@ fn benefit(rt: HostRuntime) -> Result<(), Fail> {
     by_hand(&rt, 30, [3, 10, 20, 3], &table)
 }
 
-// A sum of 9 that fades from 5 on by a fifth more than each unit: 5 to 12 lose, and it is used up at 12 1/2.
+// A sum of 9 that fades from 5 on by a fifth more than each unit: 4 to 11 lose, and it is used up at 12 1/2.
 #[test]
 fn fade(rt: HostRuntime) -> Result<(), Fail> {
     let table = [
         (LEFT, 5, Answer::Two(140_000, 0)),
         (LEFT, 12, Answer::Two(126_000, 0)),
         (LEFT, 13, Answer::Two(130_000, 0)),
+        (ROW, 0, Answer::Two(5, 12)),
         (SAFE, 5, Answer::Number(15)),
     ];
     by_hand(&rt, 40, [4, 5, 12_000, 9], &table)

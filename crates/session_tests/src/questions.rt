@@ -101,8 +101,8 @@ fn made_good(rt: HostRuntime) -> Result<(), Fail> {
     Ok(())
 }
 
-// A fifth more than all of ten million units is taken, and of each unit above a tenth is left: whoever earned nothing is as well off
-// with thirty million.
+// A fifth more than all of ten million units is taken, and of each unit above them a tenth is left: whoever earns nothing has as
+// much with thirty million.
 #[test]
 fn up_to_the_greatest_bound(rt: HostRuntime) -> Result<(), Fail> {
     let table = [

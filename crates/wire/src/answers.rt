@@ -33,7 +33,7 @@ pub enum Refusal {
     BookFull,
 }
 
-// What 24 bytes say. A refusal is one of its cases, as it is there; before it becomes bytes, a call comes to a `Result`.
+// What 24 bytes say. A refusal is one of the cases here, as it is among bytes; before that, a call comes to a `Result`.
 #[derive(Clone, Copy, Debug, PartialEq, Eq)]
 pub enum Answer {
     Refused(Refusal),
@@ -127,7 +127,7 @@ impl Answer {
         bytes
     }
 
-    // Apart from `from_bytes`, which would owe its theorems anew at each of these seven returns.
+    // The answer that the bytes are, apart from `from_bytes`, which would owe its theorems anew at each of these seven returns.
     fn parse(bytes: &[u8]) -> Option<Answer>
         ensures { says_if result ≡ answer_of bytes.now }
     {

@@ -150,7 +150,7 @@ fn read_lay(part: &[u8]) -> Result<Call, Garbled>
     Ok(Call::Lay(rule))
 }
 
-// Apart from `read_call`, which would owe its theorems anew at each of these eleven returns.
+// The call that the bytes are, apart from `read_call`, which would owe its theorems anew at each of these eleven returns.
 fn parse(bytes: &[u8]) -> Result<Call, Garbled>
     ensures { asks_or result ≡ call_of bytes.now }
 {

@@ -14,8 +14,8 @@ returns c =
     let r = c.rules-rules.ensures.rules in
     let v : to_z w64 (of_z w64 c.net_of.result) ≡ net b.rules g = to_z-of_z w64 c.net_of.result (record { sfits = c.net_of.type_inv }) ∙ c.net_of.ensures in
     let here : Holding b.rules g c.holding_at.result = rw r at c.holding_at.ensures.here in
-    let d : to_z w64 (of_z w64 c.slope_by.result) ≡ slope b.rules g =
-    to_z-of_z w64 c.slope_by.result (record { sfits = c.slope_by.type_inv }) ∙ c.slope_by.ensures ∙ slope_held b.rules g c.holding_at.result here in
+    let d : to_z w64 (of_z w64 c.slope_on.result) ≡ slope b.rules g =
+    to_z-of_z w64 c.slope_on.result (record { sfits = c.slope_on.type_inv }) ∙ c.slope_on.ensures ∙ slope_held b.rules g c.holding_at.result here in
     let n : c.next_breakpoint.result ≡ next_breakpoint b.rules b.bound g = rw (r, c.bound.ensures.value) at c.next_breakpoint.ensures.next in
     let low = rw n at c.next_breakpoint.ensures.low in
     rw (n, v, d)
