@@ -1,9 +1,10 @@
 -- The next breakpoint below: what it is, that the segment from it on ends where it was sought from, and how rules find it.
-use Rattle.std.proofs.Common.{◌≡◌, ℕ, zero, suc, ◌-◌, ◌<◌, ◌≤◌, true, ◌&&◌, ◌||◌, eqb, ltb, leb, ◌⊎◌, List, [], ◌∷◌, length, get_or, take, drop, Some, None, Option, sym, refl, ap, ◌∙◌, inl, inr, arith}
+use Rattle.std.proofs.Common.{◌≡◌, ℕ, zero, suc, ◌-◌, ◌<◌, ◌≤◌, true, ◌&&◌, eqb, ltb, leb, ◌⊎◌, List, [], ◌∷◌, length, get_or, take, drop, Some, None, Option, sym, refl, ap, ◌∙◌, inl, inr, arith}
 use Rattle.std.proofs.lemmas.List.{take_rest}
-use Rattle.std.proofs.lemmas.Bool.{cases_Bool, cases_lt, or_cases, and_parts, and_cases, and_from, or_left, or_right, le-leb, leb-true, eq-eqb, eqb-true, ltb-true, ltb-false}
+use Rattle.std.proofs.lemmas.Bool.{cases_Bool, cases_lt, and_parts, and_cases, and_from, or_left, or_right, le-leb, eq-eqb, ltb-true, ltb-false}
 use Rattle.raise.specs.Rules.{Rule, takes, gives, takes_sum, gives_sum, fades}
 use Rattle.raise.specs.Net.{breaks, breakpoints, clear, among}
+use Rattle.raise.proofs.Look.{outside}
 use Rattle.wire.specs.declared.calls.Rule as declared
 use Rattle.wire.specs.Meaning.{meant}
 use Rattle.book.specs.Meant.{all_meant}
@@ -83,19 +84,6 @@ breakpoints_below rs x some =
     }
 
 -- ---- up again
-
--- no point is inside a clear stretch
-pub outside : (ys : List ℕ) (from to y : ℕ) → clear ys from to ≡ true → among ys y ≡ true → from < y → y < to → ⊥
-unfolding clear among
-outside [] from to y c a lo hi = absurd (let e : ◌≡◌ {A = ℕ} 0 1 = cc in omega arith)
-outside (z ∷ ys) from to y c a lo hi =
-    let p = and_parts (leb z from || leb to z) (clear ys from to) c in
-    elim (or_cases (eqb z y) (among ys y) a) [
-      | inl same ↦
-          let e : z ≡ y = eqb-true z y same in
-          elim (or_cases (leb z from) (leb to z) p.0) [ inl under ↦ absurd (omega (arith, leb-true _ _ under)) | inr past ↦ absurd (omega (arith, leb-true _ _ past)) ]
-      | inr later ↦ outside ys from to y p.1 later lo hi
-    ]
 
 -- there is one next point
 one_next : (ys : List ℕ) (x e y z : ℕ) → Next ys x e y → Next ys x e z → y ≤ z

@@ -36,6 +36,19 @@ narrower (x ∷ xs) from to from' to' a b c =
     ])
     (narrower xs from to from' to' a b p.1)
 
+-- no point is inside a clear stretch
+pub outside : (ys : List ℕ) (from to y : ℕ) → clear ys from to ≡ true → among ys y ≡ true → from < y → y < to → ⊥
+unfolding clear among
+outside [] from to y c a lo hi = absurd (let e : ◌≡◌ {A = ℕ} 0 1 = cc in omega arith)
+outside (z ∷ ys) from to y c a lo hi =
+    let p = and_parts (leb z from || leb to z) (clear ys from to) c in
+    elim (or_cases (eqb z y) (among ys y) a) [
+      | inl same ↦
+          let e : z ≡ y = eqb-true z y same in
+          elim (or_cases (leb z from) (leb to z) p.0) [ inl under ↦ absurd (omega (arith, leb-true _ _ under)) | inr past ↦ absurd (omega (arith, leb-true _ _ past)) ]
+      | inr later ↦ outside ys from to y p.1 later lo hi
+    ]
+
 -- one more of them: kept as it is if that one is not inside, and cut there if it is
 module _ (x : ℕ) (xs : List ℕ) (lo hi h : ℕ) (i : Around xs lo hi h) where
   more : (y z : ℕ) → (y ≡ z) ⊎ (among xs y ≡ true) → (y ≡ z) ⊎ (among (x ∷ xs) y ≡ true)

@@ -6,10 +6,10 @@ use Rattle.raise.specs.Rules.{Rule, less_left}
 use Rattle.raise.specs.Net.{net, breakpoints}
 use Rattle.raise.specs.Laws.{SafeOn}
 use Rattle.raise.proofs.Straight.{net_order}
+use Rattle.raise.proofs.Look.{outside}
 use Rattle.segments.specs.declared.lines.Segment.{Segment}
 use Rattle.segments.specs.Segments.{SegmentOf}
-use Rattle.lowest.specs.Below.{breakpoint_below}
-use Rattle.lowest.proofs.Points.{breakpoints_below, outside}
+use Rattle.lowest.specs.Below.{Previous}
 use Rattle.safety.specs.Less.{below_at, LastBelow, LastLess}
 
 -- nothing is above the bound
@@ -20,14 +20,13 @@ pub none_less : (rs : List Rule) (b g last : ℕ) → SafeOn rs b g (suc last) �
 none_less rs b g last safe le = λ k lo hi. safe k (omega (arith, lo, le)) hi
 
 -- a segment that begins at the breakpoint at or below `last`, or between that and `last`, goes on past `last`
-pub reaches : (rs : List Rule) (b last : ℕ) (s : Segment) → SegmentOf rs b s → breakpoint_below rs (last + 1) ≤ s.from → s.from ≤ last → last ≤ b → last < s.to
-reaches rs b last s line lo hi within =
-    let i = breakpoints_below rs (last + 1) (omega arith) in
+pub reaches : (rs : List Rule) (b last y : ℕ) (s : Segment) → Previous (breakpoints rs) (last + 1) y → SegmentOf rs b s → y ≤ s.from → s.from ≤ last → last ≤ b → last < s.to
+reaches rs b last y s i line lo hi within =
     elim (cases_lt last s.to) [
       | inl past ↦ past
       | inr short ↦
           elim line.ends.reached [
-            | inl point ↦ absurd (outside (breakpoints rs) (breakpoint_below rs (last + 1)) (last + 1) s.to i.between point (omega (arith, line.ends.above, lo)) (omega (arith, short)))
+            | inl point ↦ absurd (outside (breakpoints rs) y (last + 1) s.to i.between point (omega (arith, line.ends.above, lo)) (omega (arith, short)))
             | inr end ↦ absurd (omega (arith, end, short, within))
           ]
     ]
