@@ -7,3 +7,4 @@ pub mod Ranges
 pub mod Laws
 pub mod Worked
 pub mod Told
+pub mod Kinds

@@ -1,14 +1,15 @@
 // What is true of the definitions, whatever the rules are. These functions have nothing to do: what each ensures is a law,
 // and without the law's proof the crate is refused.
-ghost use Rattle.std.specs.Prelude.{◌≡◌, ℕ, suc, ◌<◌, ◌≤◌, true, List, [], ◌∷◌, ◌++◌, ℤ, Some, Decides, int_lt};
+ghost use Rattle.std.specs.Prelude.{◌≡◌, ℕ, suc, ◌<◌, ◌≤◌, Bool, true, List, [], ◌∷◌, ◌++◌, ℤ, Some, Decides, int_lt};
 ghost use Rattle.raise.specs.Rules.{Rule, less_left, loses, safe_from};
-ghost use Rattle.raise.specs.Calls.{Answer, Limits, lays, next_row, fine, changed, told};
-ghost use Rattle.raise.specs.Promise.{borders, Shown, NeverLess, WhereToLook, AnyOrder, RatesAlone, SafeFrom};
+ghost use Rattle.raise.specs.Calls.{Call, Answer, Limits, lays, next_row, fine, changed, told, answers};
+ghost use Rattle.raise.specs.Promise.{borders, whole, Shown, NeverLess, WhereToLook, AnyOrder, RatesAlone, SafeFrom};
 ghost use Rattle.raise.specs.Net.{net, share, Straight, breaks, breakpoints, clear, SameOrPast, slope_by, slope};
 ghost use Rattle.raise.specs.Lowest.{lowest_from, Lowest, NetLine, lowest_with, loses_at};
 ghost use Rattle.raise.specs.declared.LosingRange.{LosingRange};
 ghost use Rattle.raise.specs.Told.{row_told};
 ghost use Rattle.raise.specs.Ranges.{LosingRanges, losing_ranges, range_from};
+ghost use Rattle.raise.specs.Kinds.{with_kinds, all_lay_only};
 ghost use Rattle.raise.specs.Laws.{LessAbove, Nobody, Rises, SeenAt, SeenNear, JustWithin, SafeTold, RowTold, AskedAlike, SameUpTo, Idle, idle};
 
 // Whoever loses can be shown a larger earning of which less is left; for whoever doesn't there is none.
@@ -105,4 +106,9 @@ pub fn lowest()
 // Who loses on a line is told by it and by the lowest beyond.
 pub fn loses_on_a_line()
     ensures { (rs : List Rule) (b from to : ℕ) (v d : ℤ) → NetLine rs b from to v d → (g : ℕ) → from ≤ g → g < to → loses rs b g ≡ loses_at from to v d (lowest_from rs b to) g }
+{}
+
+// Calls that need some kinds of rules only get the same answers whether a book can do the other kinds or not.
+pub fn kinds()
+    ensures { (can : ℕ → Bool) (l : Limits) (rs : List Rule) (cs : List Call) → all_lay_only can cs ≡ true → answers (with_kinds can l) rs cs ≡ answers (with_kinds whole l) rs cs }
 {}

@@ -5,7 +5,7 @@ use Rattle.std.proofs.lemmas.Bool.{cases_Bool, le-ltb, ltb-false}
 use Rattle.std.proofs.lemmas.Bool.Decides.{nat_tests}
 use Rattle.raise.specs.Rules.{Rule}
 use Rattle.raise.specs.Calls.{Call, Answer, Limits, lays, lifts, left_of, next_row, safe, garbled, number, fine, turned, changed, told, row_from, answer, answers}
-use Rattle.raise.specs.Promise.{Memory, GoodLimits, told_by, left_by, ran, thin, all_below, Right, RefusalKeeps, EnoughMemory}
+use Rattle.raise.specs.Promise.{Memory, GoodLimits, told_by, left_by, ran, whole, all_below, Right, RefusalKeeps, EnoughMemory}
 use Rattle.book.specs.Held.{Book, Good, asked, image, with_rules, all_fine}
 use Rattle.book.proofs.Laws.{good_laid, good_lifted, image_long, image_below}
 use Rattle.session.proofs.Steps.{book_after, book_ran, next_behind, says_behind, keeps_behind}
@@ -165,10 +165,10 @@ opened_image l h =
     rw (a, b, c, d) refl
 
 -- the limits of an opened book are those that it was opened with
-pub same_limits : (l : Limits) → l.rules_can ≡ thin → limits (empty l) ≡ l
+pub same_limits : (l : Limits) → l.rules_can ≡ whole → limits (empty l) ≡ l
 same_limits l e = ap (λ (k : ℕ → Bool). record { rules_can = k; rules = l.rules; bound = l.bound }) (sym e)
 
-pub right : Right thin desk
+pub right : Right whole desk
 right l cs h e r =
     told_desk (opened_words l) cs ∙ ap (λ (ws : List ℕ). told_words ws cs) (opened_image l h) ∙
     told_behind (empty l) [] cs (good_empty l h) ∙ ap (λ (m : Limits). answers m [] cs) (same_limits l e)
@@ -176,7 +176,7 @@ right l cs h e r =
 left_opened : (l : Limits) (cs : List Call) → GoodLimits l → left_by desk (desk.opened l) cs ≡ record { words = left_words (image (empty l) ++ []) cs }
 left_opened l cs h = left_desk (opened_words l) cs ∙ ap (λ (ws : List ℕ). record { words = left_words ws cs }) (opened_image l h)
 
-pub refusal_keeps : RefusalKeeps thin desk
+pub refusal_keeps : RefusalKeeps whole desk
 refusal_keeps l cs c h e r t =
     let d = left_opened l cs h in
     let u : 0 < turned (limits (empty l)) (ran (limits (empty l)) [] cs) c = rw (same_limits l e) t in
@@ -184,16 +184,16 @@ refusal_keeps l cs c h e r t =
 
 -- what is told on every image is told after every list of calls
 after_calls : (T : Memory → List Rule → ℕ → Type 0) → ((b : Book) → Good b → T (record { words = image b ++ [] }) b.rules b.bound) →
-    (l : Limits) (cs : List Call) → GoodLimits l → l.rules_can ≡ thin → T (left_by desk (desk.opened l) cs) (ran l [] cs) l.bound
+    (l : Limits) (cs : List Call) → GoodLimits l → l.rules_can ≡ whole → T (left_by desk (desk.opened l) cs) (ran l [] cs) l.bound
 after_calls T tells l cs h e =
     let d = left_opened l cs h ∙ ap (λ (ws : List ℕ). record { words = ws }) (left_behind (empty l) [] cs (good_empty l h)) in
     let z : ran (limits (empty l)) [] cs ≡ ran l [] cs = ap (λ (k : Limits). ran k [] cs) (same_limits l e) in
     rw (d, ← z) (tells (book_ran (empty l) cs) (good_ran (empty l) cs (good_empty l h)))
 
-pub all_rows : AllRows thin desk
+pub all_rows : AllRows whole desk
 all_rows l cs h e = after_calls (TellsAllRows desk) (λ b g. tells_all b [] g) l cs h e
 
-pub all_safe : AllSafe thin desk
+pub all_safe : AllSafe whole desk
 all_safe l cs h e = after_calls (TellsSafe desk) (λ b g. tells_safe b [] g) l cs h e
 
 pub enough_memory : EnoughMemory desk

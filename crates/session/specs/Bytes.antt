@@ -3,7 +3,7 @@ use Rattle.std.specs.Prelude.{◌≡◌, ℕ, ◌+◌, ◌*◌, ◌<◌, ◌≤�
 use Rattle.std.specs.List.{AllByRecursion}
 use Rattle.raise.specs.Rules.{pick}
 use Rattle.raise.specs.Calls.{Limits, number, turned, answers}
-use Rattle.raise.specs.Promise.{ran, all_below, thin}
+use Rattle.raise.specs.Promise.{ran, all_below, whole}
 use Rattle.wire.specs.CallBytes.{call_of}
 use Rattle.wire.specs.AnswerBytes.{answer_bytes, answer_of}
 use Rattle.book.specs.Held.{asked}
@@ -33,19 +33,19 @@ left_bytes ws (bs ∷ bss) = left_bytes (next_bytes ws bs) bss
 -- the bytes answered are those of the written book's answers
 abbrev pub RightBytes : Type 0
 RightBytes =
-    (ws : List ℕ) (l : Limits) (bss : List (List ℕ)) → l.rules_can ≡ thin → opening ws l ≡ number 0 →
+    (ws : List ℕ) (l : Limits) (bss : List (List ℕ)) → l.rules_can ≡ whole → opening ws l ≡ number 0 →
     told_bytes (open_words ws l) bss ≡ map answer_bytes (answers l [] (map call_of bss))
 
 -- and they are read back as these: no number is cut short
 abbrev pub ReadBackBytes : Type 0
 ReadBackBytes =
-    (ws : List ℕ) (l : Limits) (bss : List (List ℕ)) → l.rules_can ≡ thin → opening ws l ≡ number 0 → AllByRecursion (λ bs. all_below 256 bs ≡ true) bss →
+    (ws : List ℕ) (l : Limits) (bss : List (List ℕ)) → l.rules_can ≡ whole → opening ws l ≡ number 0 → AllByRecursion (λ bs. all_below 256 bs ≡ true) bss →
     map answer_of (told_bytes (open_words ws l) bss) ≡ map Some (answers l [] (map call_of bss))
 
 -- bytes that are turned away change nothing
 abbrev pub RefusalKeepsBytes : Type 0
 RefusalKeepsBytes =
-    (ws : List ℕ) (l : Limits) (bss : List (List ℕ)) (bs : List ℕ) → l.rules_can ≡ thin → opening ws l ≡ number 0 → 0 < turned l (ran l [] (map call_of bss)) (call_of bs) →
+    (ws : List ℕ) (l : Limits) (bss : List (List ℕ)) (bs : List ℕ) → l.rules_can ≡ whole → opening ws l ≡ number 0 → 0 < turned l (ran l [] (map call_of bss)) (call_of bs) →
     next_bytes (left_bytes (open_words ws l) bss) bs ≡ left_bytes (open_words ws l) bss
 
 -- the words asked for are at most 64 a rule and 256 more; each stays within 64 bits, and those behind them stay as they were

@@ -3,16 +3,16 @@
 use Rattle.std.specs.Prelude.{◌≡◌, ℕ, ◌+◌, ◌*◌, ◌<◌, ◌≤◌, Bool, false, List, [], ◌∷◌, ◌++◌, length, drop, replicate, Some, None, Ok, Err, Option, Result, ◌==◌, nat_lt}
 use Rattle.raise.specs.Rules.{pick}
 use Rattle.raise.specs.Calls.{Call, Answer, Limits, lays, lifts, left_of, next_row, safe, garbled, refused, number, two, turned, changed, answer, answers}
-use Rattle.raise.specs.Promise.{Desk, ran, thin}
+use Rattle.raise.specs.Promise.{Desk, ran, whole}
 use Rattle.session.specs.Rows.{TellsAllRows}
 use Rattle.session.specs.Safe.{TellsSafe}
 use Rattle.wire.specs.declared.answers.Refusal.{Refusal}
 use Rattle.wire.specs.Meaning.{refusal_number, refusal_place}
 use Rattle.book.specs.Held.{Book, asked, image, book_of, rewritten}
 
--- this stage has rates only: take and give
+-- all kinds of rules can be done
 abbrev pub limited : ℕ → ℕ → Limits
-limited rules bound = record { rules_can = thin; rules = rules; bound = bound }
+limited rules bound = record { rules_can = whole; rules = rules; bound = bound }
 
 -- ---- open
 

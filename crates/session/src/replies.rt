@@ -1,10 +1,9 @@
 // The answer to each call, on a book that was read from the words.
 #![tactic(auto, unfolding(raise::specs::Calls::turned, raise::specs::Calls::place, raise::specs::Calls::told, raise::specs::Calls::changed))]
 
-ghost use Rattle.std.specs.Prelude.{◌≡◌, ◌≤◌, ◌&&◌, length, Some, None, nat_le};
+ghost use Rattle.std.specs.Prelude.{◌≡◌, ◌≤◌, length, Some, None, nat_le};
 ghost use Rattle.raise.specs.Rules.{pick};
-ghost use Rattle.raise.specs.Calls.{lays, lifts, left_of, next_row, safe, number, rule_number, fine};
-ghost use Rattle.raise.specs.Promise.{thin};
+ghost use Rattle.raise.specs.Calls.{lays, lifts, left_of, next_row, safe, number, fine};
 ghost use Rattle.raise.specs.Told.{gross_told, row_told};
 ghost use Rattle.wire.specs.Meaning.{meant, asks, says};
 ghost use Rattle.wire.specs.CallBytes.{call_of};
@@ -25,19 +24,11 @@ pub(crate) fn at_most(value: u32, most: u32) -> Option<u32>
     (value <= most).then_some(value)
 }
 
-// Rates can be done at this stage.
-#[tactic(auto, unfolding(raise::specs::Calls::rule_number))]
-fn can_do(rule: Rule) -> bool
-    ensures { result ≡ thin (rule_number (meant rule)) }
-{
-    matches!(rule, Rule::Take { .. } | Rule::Give { .. })
-}
-
-// The rule, if it is of a kind that can be done, and in range.
+// The rule, if it is in range, of whatever kind.
 fn admit(rule: Rule) -> Option<Rule>
-    ensures { result ≡ pick (thin (rule_number (meant rule)) && fine (meant rule)) (Some rule) None }
+    ensures { result ≡ pick (fine (meant rule)) (Some rule) None }
 {
-    (can_do(rule) && is_fine(rule)).then_some(rule)
+    is_fine(rule).then_some(rule)
 }
 
 fn lay_rule(book: &mut Book, rule: Rule) -> Result<Answer, Refusal>

@@ -94,3 +94,18 @@ pub(crate) fn none_laid(
         refuses(rt, words, &lay(*kind, *from, *second, *last), refusal);
     }
 }
+
+// A book of these rules answers so, and no question changes a word of it.
+pub(crate) fn answers(
+    rt: &impl Abort,
+    rules: &[(u8, u32, u32, u32)],
+    bound: u32,
+    table: &[(u8, u32, Answer)],
+) -> Result<(), Fail> {
+    let mut words = opened(4, bound)?;
+    all_laid(rt, &mut words, rules);
+    let book = words;
+    all_say(rt, &mut words, table);
+    assert_eq!(rt; words, book);
+    Ok(())
+}

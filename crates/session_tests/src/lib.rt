@@ -4,6 +4,8 @@
 #[cfg(test)]
 mod asking;
 #[cfg(test)]
+mod fades;
+#[cfg(test)]
 mod memory;
 #[cfg(test)]
 mod openings;
@@ -11,3 +13,7 @@ mod openings;
 mod questions;
 #[cfg(test)]
 mod rules;
+#[cfg(test)]
+mod sums;
+#[cfg(test)]
+mod worked;

@@ -5,21 +5,6 @@ use std::process::Abort;
 use std::test::Fail;
 use wire::{Answer, Refusal};
 
-// A book of these rules answers so, and no question changes a word of it.
-fn answers(
-    rt: &impl Abort,
-    rules: &[(u8, u32, u32, u32)],
-    bound: u32,
-    table: &[(u8, u32, Answer)],
-) -> Result<(), Fail> {
-    let mut words = opened(4, bound)?;
-    all_laid(rt, &mut words, rules);
-    let book = words;
-    all_say(rt, &mut words, table);
-    assert_eq!(rt; words, book);
-    Ok(())
-}
-
 #[test]
 fn without_rules(rt: HostRuntime) -> Result<(), Fail> {
     let table = [
@@ -31,34 +16,6 @@ fn without_rules(rt: HostRuntime) -> Result<(), Fail> {
         (SAFE, 300, Answer::Number(0)),
     ];
     answers(&rt, &[], 300, &table)
-}
-
-// A tax of all of each unit up to 10: nobody loses, and nobody wins below 10.
-#[test]
-fn full_tax(rt: HostRuntime) -> Result<(), Fail> {
-    let table = [
-        (ROW, 0, Answer::Two(0, 0)),
-        (LEFT, 10, Answer::Two(100_000, 100_000)),
-        (LEFT, 11, Answer::Two(110_000, 100_000)),
-        (SAFE, 3, Answer::Number(5)),
-    ];
-    answers(&rt, &[(TAKE, 0, 10, 10_000)], 20, &table)
-}
-
-// One of a fifth more: 0 to 9 lose. Of 10 two less are left than of 0, and of 12 as much.
-#[test]
-fn steep_tax(rt: HostRuntime) -> Result<(), Fail> {
-    let table = [
-        (ROW, 0, Answer::Two(1, 10)),
-        (ROW, 9, Answer::Two(10, 10)),
-        (ROW, 10, Answer::Two(0, 0)),
-        (LEFT, 10, Answer::Two(100_000, 120_000)),
-        (SAFE, 0, Answer::Number(13)),
-        (SAFE, 9, Answer::Number(12)),
-        (SAFE, 10, Answer::Number(12)),
-        (SAFE, 20, Answer::Number(0)),
-    ];
-    answers(&rt, &[(TAKE, 0, 10, 12_000)], 20, &table)
 }
 
 // Rows one after the other: 12 alone doesn't lose between 9 and 13, since of 14 as much is left.

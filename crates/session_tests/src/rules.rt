@@ -5,32 +5,76 @@ use std::process::Abort;
 use std::test::Fail;
 use wire::{Answer, Refusal};
 
-// From below to, to at most 1,000,000,000, a rate of at most 20,000; no sums and no fades yet.
+// From below to, to at most 1,000,000,000, a rate of at most 20,000, a sum of at most 100,000,000: rules that are just out of range.
+#[test]
+fn out_of_range(rt: HostRuntime) -> Result<(), Fail> {
+    let mut words = opened(4, 5000)?;
+    for kind in [TAKE, GIVE] {
+        let not = [
+            (kind, 9, 9, 5),
+            (kind, 9, 8, 5),
+            (kind, 0, MOST + 1, 5),
+            (kind, 0, 9, 20_001),
+            (kind, u32::MAX, u32::MAX, 0),
+        ];
+        none_laid(&rt, &mut words, &not, Refusal::OutOfRange);
+    }
+    for kind in [TAKE_SUM, GIVE_SUM] {
+        let not = [
+            (kind, 9, 9, 5),
+            (kind, 9, 8, 5),
+            (kind, 0, MOST + 1, 5),
+            (kind, 0, 9, 100_000_001),
+            (kind, 0, 9, u32::MAX),
+        ];
+        none_laid(&rt, &mut words, &not, Refusal::OutOfRange);
+    }
+    let not = [
+        (FADE, MOST + 1, 5, 9),
+        (FADE, 0, 20_001, 9),
+        (FADE, 0, 5, 100_000_001),
+        (FADE, u32::MAX, 0, 0),
+    ];
+    none_laid(&rt, &mut words, &not, Refusal::OutOfRange);
+    Ok(())
+}
+
+// Rules that are just in range, and their slots.
 #[test]
 fn in_range(rt: HostRuntime) -> Result<(), Fail> {
     let mut words = opened(4, 5000)?;
-    let not = [
-        (TAKE, 9, 9, 5),
-        (TAKE, 9, 8, 5),
-        (TAKE, 0, MOST + 1, 5),
-        (TAKE, 0, 9, 20_001),
-        (GIVE, 9, 9, 5),
-        (GIVE, 9, 8, 5),
-        (GIVE, 0, MOST + 1, 5),
-        (GIVE, 0, 9, 20_001),
-        (GIVE, u32::MAX, u32::MAX, 0),
-        (TAKE_SUM, 1, 9, 5),
-        (GIVE_SUM, 1, 9, 5),
-        (FADE, 1, 9, 5),
+    let rates = [(TAKE, MOST - 1, MOST, 20_000), (GIVE, 0, 1, 0)];
+    all_laid(&rt, &mut words, &rates);
+    let slots = [2, 0, 999_999_999, 1_000_000_000, 20_000, 1, 0, 1, 0];
+    assert_eq!(rt; &words[3..12], slots.as_slice());
+    let mut words = opened(4, 5000)?;
+    let others = [
+        (TAKE_SUM, MOST - 1, MOST, 100_000_000),
+        (GIVE_SUM, 0, 1, 0),
+        (FADE, MOST, 20_000, 100_000_000),
+        (FADE, 0, 0, 0),
     ];
-    none_laid(&rt, &mut words, &not, Refusal::OutOfRange);
-    all_laid(
-        &rt,
-        &mut words,
-        &[(TAKE, MOST - 1, MOST, 20_000), (GIVE, 0, 1, 0)],
-    );
-    let slots = [2, 0, 999_999_999, 1_000_000_000, 20_000, 1, 0, 1, 0, 0, 0];
-    assert_eq!(rt; &words[3..14], slots.as_slice());
+    all_laid(&rt, &mut words, &others);
+    let slots = [
+        4,
+        2,
+        999_999_999,
+        1_000_000_000,
+        100_000_000,
+        3,
+        0,
+        1,
+        0,
+        4,
+        1_000_000_000,
+        20_000,
+        100_000_000,
+        4,
+        0,
+        0,
+        0,
+    ];
+    assert_eq!(rt; &words[3..20], slots.as_slice());
     Ok(())
 }
 

@@ -1,0 +1,5 @@
+use Rattle.raise.proofs.Unused.{others_unused}
+use Rattle.raise.proofs.laws.kinds.Goals as goal
+
+pub returns : goal.returns
+returns c = others_unused
