@@ -12,4 +12,4 @@ pub mod Lows
 pub mod Ranges
 pub mod Trial
 pub mod Picks
-pub mod Unused
+pub mod OtherKinds

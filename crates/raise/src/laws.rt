@@ -108,7 +108,7 @@ pub fn loses_on_a_line()
     ensures { (rs : List Rule) (b from to : ℕ) (v d : ℤ) → NetLine rs b from to v d → (g : ℕ) → from ≤ g → g < to → loses rs b g ≡ loses_at from to v d (lowest_from rs b to) g }
 {}
 
-// Calls that need some kinds of rules only get the same answers whether a book can do the other kinds or not.
+// Calls that lay only rules of some kinds get the same answers whether a book can do only these kinds or all.
 pub fn kinds()
     ensures { (can : ℕ → Bool) (l : Limits) (rs : List Rule) (cs : List Call) → all_lay_only can cs ≡ true → answers (with_kinds can l) rs cs ≡ answers (with_kinds whole l) rs cs }
 {}

@@ -3,6 +3,6 @@ pub mod Rows
 pub mod Safe
 pub mod Runs
 pub mod Nothing
-pub mod Unused
+pub mod OtherKinds
 pub mod OnBytes
 pub mod Scratch

@@ -5,14 +5,14 @@
 
 mod replies;
 
-ghost use Rattle.std.specs.Prelude.{◌≡◌, ◌++◌, length, drop, Some, None, nat_le};
+ghost use Rattle.std.specs.Prelude.{◌≡◌, ◌++◌, ℕ, Bool, length, drop, Some, None, nat_le};
 ghost use Rattle.raise.specs.Rules.{pick};
 ghost use Rattle.raise.specs.Promise.{thin, whole, Right, RefusalKeeps, EnoughMemory};
 ghost use Rattle.wire.specs.Meaning.{says};
 ghost use Rattle.wire.specs.CallBytes.{call_of};
 ghost use Rattle.book.specs.Held.{asked};
 ghost use Rattle.session.specs.Memory.{limited, said_open, opening, open_words, Opened, Suffices, says_words, next_words, desk};
-ghost use Rattle.session.specs.Nothing.{no_kinds, Plain};
+ghost use Rattle.session.specs.Nothing.{Plain};
 ghost use Rattle.session.specs.Kinds.{KeepsAnswers};
 ghost use Rattle.session.specs.Rows.{AllRows};
 ghost use Rattle.session.specs.Safe.{AllSafe};
@@ -56,8 +56,8 @@ pub fn open(words: &mut [u64], rules: u32, bound: u32) -> Result<(), Refusal>
 // is turned away changes nothing, and memory stays within what is asked for. Asked for one after the other, the rows that are told
 // are those of all earnings up to the bound at which somebody loses by earning more, from the first to the last, none left out. For
 // each earning up to the bound the smallest larger one is told from which on at least as much is left, or that there is none. Calls
-// that lay rates only, or nothing, get the answers of books that can do no other kinds.
-#[tactic(auto, using(crate::proofs::Runs::right, crate::proofs::Runs::refusal_keeps, crate::proofs::Runs::all_rows, crate::proofs::Runs::all_safe, crate::proofs::Nothing::all_plain, crate::proofs::Unused::keeps_answers))]
+// that lay only some kinds of rules, such as rates, get the answers of a book that can do no others.
+#[tactic(auto, using(crate::proofs::Runs::right, crate::proofs::Runs::refusal_keeps, crate::proofs::Runs::all_rows, crate::proofs::Runs::all_safe, crate::proofs::Nothing::all_plain, crate::proofs::OtherKinds::keeps_answers))]
 pub fn call(words: &mut [u64], bytes: &[u8]) -> Answer
     ensures said { says result ≡ says_words words.old (call_of bytes.now) }
     ensures words { words.new ≡ next_words words.old (call_of bytes.now) }
@@ -67,7 +67,7 @@ pub fn call(words: &mut [u64], bytes: &[u8]) -> Answer
     ensures rows { AllRows whole desk }
     ensures safe { AllSafe whole desk }
     ensures plain { Plain }
-    ensures unlaid { KeepsAnswers no_kinds }
+    ensures kinds { (can : ℕ → Bool) → KeepsAnswers can }
     ensures rates { KeepsAnswers thin }
 {
     reply(words, bytes).unwrap_or_else(Answer::Refused)

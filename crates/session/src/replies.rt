@@ -24,7 +24,7 @@ pub(crate) fn at_most(value: u32, most: u32) -> Option<u32>
     (value <= most).then_some(value)
 }
 
-// The rule, if it is in range, of whatever kind.
+// The rule, if it is in range.
 fn admit(rule: Rule) -> Option<Rule>
     ensures { result ≡ pick (fine (meant rule)) (Some rule) None }
 {

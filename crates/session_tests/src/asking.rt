@@ -109,3 +109,11 @@ pub(crate) fn answers(
     assert_eq!(rt; words, book);
     Ok(())
 }
+
+// A book of 64 times one rule, up to the greatest bound.
+pub(crate) fn full_of(rt: &impl Abort, rule: (u8, u32, u32, u32)) -> Result<[u64; 2112], Fail> {
+    let mut words = [7u64; 2112];
+    open(&mut words, 64, MOST).ok().ok_or("not opened")?;
+    all_laid(rt, &mut words, &[rule; 64]);
+    Ok(words)
+}

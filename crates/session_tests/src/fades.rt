@@ -3,8 +3,8 @@ use crate::asking::*;
 use std::test::Fail;
 use wire::Answer;
 
-// A sum of 9 that fades from 5 on by a fifth more than each unit: it is used up at 12 1/2, and nothing is given or taken from 13 on.
-// If it went on below nothing, everybody from 4 on would lose.
+// A sum of 9 that fades by 1.2 of each unit above 5: it is used up at 12 1/2, and nothing is given or taken from 13 on. If it went
+// on below nothing, everybody below the bound would lose.
 #[test]
 fn stops_at_nothing(rt: HostRuntime) -> Result<(), Fail> {
     let table = [
@@ -70,8 +70,9 @@ fn never(rt: HostRuntime) -> Result<(), Fail> {
     answers(&rt, &rules, 30, &table)
 }
 
-// The last unit at which something is left of it is 4,294,970,000, which is 2,704 more than 32 bits have: what is left rises by 9,999
-// up to the bound. Half a billion loses by a charge of a million, and is safe so many units farther on.
+// A sum of 429,497 that fades by a ten-thousandth of each unit is used up at 4,294,970,000, which is 2,704 past 2^32: but for the
+// charge, net rises by 0.9999 a unit up to the bound. A charge of a million begins at half a billion: whoever earns one less is safe
+// from 501,000,100 on.
 #[test]
 fn past_32_bits(rt: HostRuntime) -> Result<(), Fail> {
     let table = [
@@ -87,30 +88,36 @@ fn past_32_bits(rt: HostRuntime) -> Result<(), Fail> {
     answers(&rt, &rules, MOST, &table)
 }
 
-// The greatest sum at the least rate lasts a thousand times as long as the bound, from 0 as from a billion on.
+// The greatest sum at the least rate above 0 lasts a thousand times as long as the bound: but for the charge, net rises by 0.9999 a
+// unit from 900,000,000 on.
 #[test]
-fn as_far_as_can_be(rt: HostRuntime) -> Result<(), Fail> {
-    let from_nothing = [
+fn far_past_the_bound(rt: HostRuntime) -> Result<(), Fail> {
+    let table = [
         (LEFT, 0, Answer::Two(1_000_000_000_000, 0)),
-        (LEFT, MOST, Answer::Two(10_999_000_000_000, 0)),
-        (ROW, 0, Answer::Two(498_999_901, 500_000_000)),
-        (SAFE, 499_999_999, Answer::Number(501_000_101)),
+        (LEFT, MOST, Answer::Two(10_999_900_000_000, 0)),
+        (ROW, 0, Answer::Two(948_999_901, 950_000_000)),
+        (SAFE, 949_999_999, Answer::Number(951_000_101)),
     ];
     let rules = [
-        (FADE, 0, 1, 100_000_000),
-        (TAKE_SUM, 500_000_000, MOST, 1_000_000),
+        (FADE, 900_000_000, 1, 100_000_000),
+        (TAKE_SUM, 950_000_000, MOST, 1_000_000),
     ];
-    answers(&rt, &rules, MOST, &from_nothing)?;
-    let from_a_billion = [
+    answers(&rt, &rules, MOST, &table)
+}
+
+// The farthest end that a fade can have, 1,001,000,000,000: it begins to fade at the greatest bound, so that nobody has less by it.
+#[test]
+fn the_farthest_end(rt: HostRuntime) -> Result<(), Fail> {
+    let table = [
         (LEFT, 0, Answer::Two(1_000_000_000_000, 0)),
         (LEFT, MOST, Answer::Two(11_000_000_000_000, 0)),
         (ROW, 0, Answer::Two(0, 0)),
-        (SAFE, MOST - 1, Answer::Number(1_000_000_001)),
+        (SAFE, MOST - 1, Answer::Number(u64::from(MOST) + 1)),
     ];
-    answers(&rt, &[(FADE, MOST, 1, 100_000_000)], MOST, &from_a_billion)
+    answers(&rt, &[(FADE, MOST, 1, 100_000_000)], MOST, &table)
 }
 
-// Up to its border all of it is given: nobody up to a bound of 40 is met by one that begins there, and one unit before it one is.
+// Up to its border all of it is given: with the bound as its border nobody loses by it, and with one lower 39 does.
 #[test]
 fn around_the_bound(rt: HostRuntime) -> Result<(), Fail> {
     let at = [
@@ -129,7 +136,8 @@ fn around_the_bound(rt: HostRuntime) -> Result<(), Fail> {
     answers(&rt, &[(FADE, 39, 12_000, 9)], 40, &before)
 }
 
-// Two fades from one border, together by 2.1 of each unit while both last, up to 10; the longer alone leaves more with each unit.
+// Two fades from one border: both together take 2.1 of each unit up to 10, where one is used up, and then the other takes 0.9 up to
+// 15.
 #[test]
 fn two_from_one_border(rt: HostRuntime) -> Result<(), Fail> {
     let table = [

@@ -4,10 +4,15 @@ use std::process::Abort;
 use std::test::Fail;
 use wire::{Answer, Refusal};
 
-// A book of two rules, with one word changed.
-fn changed(rt: &impl Abort, place: usize, word: u64) -> Result<(), Fail> {
+// A book of two rules, of which this is the second, with one word changed.
+fn changed(
+    rt: &impl Abort,
+    second: (u8, u32, u32, u32),
+    place: usize,
+    word: u64,
+) -> Result<(), Fail> {
     let mut words = opened(2, 300)?;
-    all_laid(rt, &mut words, &[(TAKE, 5, 9, 1), (GIVE, 5, 9, 1)]);
+    all_laid(rt, &mut words, &[(TAKE, 5, 9, 1), second]);
     assert!(rt; place < WORDS);
     words[place] = word;
     none_asked(
@@ -35,25 +40,31 @@ fn no_book(rt: HostRuntime) -> Result<(), Fail> {
         (3, u64::MAX),
     ];
     for (place, word) in front {
-        changed(&rt, place, word)?;
+        changed(&rt, (GIVE, 5, 9, 1), place, word)?;
     }
     Ok(())
 }
 
-// Of the second rule: a kind that is none, borders that are no borders, numbers that are too large.
+// Of the second rule, a rate, a sum or a fade: a kind that is none, borders that are no borders, numbers that are too large.
 #[test]
 fn no_rule(rt: HostRuntime) -> Result<(), Fail> {
-    let slot = [
-        (8, 5),
-        (8, 4_294_967_296),
-        (9, 9),
-        (10, 5),
-        (10, 1_000_000_001),
-        (11, 20_001),
-        (11, 4_294_967_297),
+    let slots = [
+        (GIVE, 8, 5),
+        (GIVE, 8, 4_294_967_296),
+        (GIVE, 9, 9),
+        (GIVE, 10, 5),
+        (GIVE, 10, 1_000_000_001),
+        (GIVE, 11, 20_001),
+        (GIVE, 11, 4_294_967_297),
+        (TAKE_SUM, 9, 9),
+        (TAKE_SUM, 10, 1_000_000_001),
+        (GIVE_SUM, 11, 100_000_001),
+        (FADE, 9, 1_000_000_001),
+        (FADE, 10, 20_001),
+        (FADE, 11, 100_000_001),
     ];
-    for (place, word) in slot {
-        changed(&rt, place, word)?;
+    for (kind, place, word) in slots {
+        changed(&rt, (kind, 5, 9, 1), place, word)?;
     }
     Ok(())
 }

@@ -1,7 +1,6 @@
 // Left, row and safe.
 use crate::asking::*;
 use session::serve;
-use std::process::Abort;
 use std::test::Fail;
 use wire::{Answer, Refusal};
 
@@ -31,7 +30,7 @@ fn rows_on(rt: HostRuntime) -> Result<(), Fail> {
     answers(&rt, &rules, 30, &table)
 }
 
-// The same tax where the bound ends it: there is a loss that nothing makes good.
+// A tax of a fifth more than all, which only the bound ends: there is a loss that nothing makes good.
 #[test]
 fn never_safe(rt: HostRuntime) -> Result<(), Fail> {
     let table = [(ROW, 0, Answer::Two(1, 10)), (SAFE, 0, Answer::Number(0))];

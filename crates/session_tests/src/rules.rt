@@ -5,7 +5,7 @@ use std::process::Abort;
 use std::test::Fail;
 use wire::{Answer, Refusal};
 
-// From below to, to at most 1,000,000,000, a rate of at most 20,000, a sum of at most 100,000,000: rules that are just out of range.
+// Out of range: borders out of order, or above 1,000,000,000, a fade's too; a rate above 20,000; a sum above 100,000,000.
 #[test]
 fn out_of_range(rt: HostRuntime) -> Result<(), Fail> {
     let mut words = opened(4, 5000)?;
@@ -108,6 +108,33 @@ fn full(rt: HostRuntime) -> Result<(), Fail> {
     let full = Answer::Refused(Refusal::BookFull);
     says(&rt, &mut words, &lay(GIVE, 0, MOST, 1), full);
     assert_eq!(rt; &words[2112..], [7, 7, 7, 7].as_slice());
+    Ok(())
+}
+
+// The same for the other kinds: 64 times the most that each gives or takes.
+#[test]
+fn most_in_and_out(rt: HostRuntime) -> Result<(), Fail> {
+    let (all, before) = (10_000_000_000_000, 9_999_999_990_000);
+    let (sum, sums) = (100_000_000, 64_000_000_000_000);
+    let given = Answer::Two(all + 1_280_000_000_000_000, 0);
+    let cases = [
+        ((GIVE, 0, MOST, 20_000), MOST, given),
+        (
+            (TAKE_SUM, 0, MOST, sum),
+            MOST - 1,
+            Answer::Two(before, sums),
+        ),
+        (
+            (GIVE_SUM, 0, MOST, sum),
+            MOST - 1,
+            Answer::Two(before + sums, 0),
+        ),
+        ((FADE, MOST, 20_000, sum), MOST, Answer::Two(all + sums, 0)),
+    ];
+    for (rule, gross, left) in cases {
+        let mut words = full_of(&rt, rule)?;
+        says(&rt, &mut words, &ask(LEFT, gross), left);
+    }
     Ok(())
 }
 

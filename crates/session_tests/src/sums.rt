@@ -1,14 +1,10 @@
 // Sums that begin and end at once.
 use crate::asking::*;
-use session::open;
-use std::process::Abort;
 use std::test::Fail;
 use wire::Answer;
 
-const A_BILLION: u64 = 1_000_000_000;
-
-// A sum of 5 that is given from 10 on, up to before the bound, up to it, or on and on: only if it ends at the bound or before does
-// somebody lose, since the bound itself has it no more.
+// A sum of 5 is given from 10 on, and ends one below the bound, at it, one above, or at a billion: only if it ends at the bound or
+// below does somebody lose, since the bound itself then no longer has it.
 #[test]
 fn given_around_the_bound(rt: HostRuntime) -> Result<(), Fail> {
     let cases = [
@@ -28,7 +24,7 @@ fn given_around_the_bound(rt: HostRuntime) -> Result<(), Fail> {
     Ok(())
 }
 
-// The same taken: 6 to 9 lose wherever it ends, and the bound is without it only if it ends there or before.
+// The same taken: 6 to 9 lose wherever it ends, and the bound is without it only if it ends there or below.
 #[test]
 fn taken_around_the_bound(rt: HostRuntime) -> Result<(), Fail> {
     let cases = [(19, 0), (20, 0), (21, 50_000), (MOST, 50_000)];
@@ -62,14 +58,14 @@ fn begins_at_the_bound(rt: HostRuntime) -> Result<(), Fail> {
     answers(&rt, &[(TAKE_SUM, 21, 22, 5)], 20, &above)
 }
 
-// No sum can be given at a billion: it ends one before, and whoever has fewer than 5 units to go loses.
+// No sum with an end can be given at a billion: it ends one before, and whoever earns 1 to 4 units less than a billion loses.
 #[test]
 fn up_to_a_billion(rt: HostRuntime) -> Result<(), Fail> {
     let table = [
         (LEFT, MOST - 1, Answer::Two(10_000_000_040_000, 0)),
         (LEFT, MOST, Answer::Two(10_000_000_000_000, 0)),
-        (ROW, 0, Answer::Two(A_BILLION - 3, A_BILLION)),
-        (SAFE, MOST - 5, Answer::Number(A_BILLION - 3)),
+        (ROW, 0, Answer::Two(u64::from(MOST) - 3, u64::from(MOST))),
+        (SAFE, MOST - 5, Answer::Number(u64::from(MOST) - 3)),
         (SAFE, MOST - 4, Answer::Number(0)),
     ];
     answers(&rt, &[(GIVE_SUM, 10, MOST, 5)], MOST, &table)
@@ -119,45 +115,15 @@ fn one_behind_the_other(rt: HostRuntime) -> Result<(), Fail> {
     answers(&rt, &rules, 40, &table)
 }
 
-// 64 rules of one kind, each the greatest: in and out of a gross.
-fn full(
-    rt: &impl Abort,
-    rule: (u8, u32, u32, u32),
-    gross: u32,
-    inflow: u64,
-    outflow: u64,
-) -> Result<(), Fail> {
-    let mut words = [0u64; 2112];
-    open(&mut words, 64, MOST).ok().ok_or("not opened")?;
-    all_laid(rt, &mut words, &[rule; 64]);
-    let left = Answer::Two(inflow, outflow);
-    says(rt, &mut words, &ask(LEFT, gross), left);
-    Ok(())
-}
-
-#[test]
-fn most_in_and_out(rt: HostRuntime) -> Result<(), Fail> {
-    let (all, sums) = (10_000_000_000_000, 64_000_000_000_000);
-    let rates = 1_280_000_000_000_000;
-    full(&rt, (TAKE, 0, MOST, 20_000), MOST, all, rates)?;
-    full(&rt, (GIVE, 0, MOST, 20_000), MOST, all + rates, 0)?;
-    let before = all - 10_000;
-    let sum = 100_000_000;
-    full(&rt, (TAKE_SUM, 0, MOST, sum), MOST - 1, before, sums)?;
-    full(&rt, (GIVE_SUM, 0, MOST, sum), MOST - 1, before + sums, 0)?;
-    full(&rt, (FADE, MOST, 20_000, sum), MOST, all + sums, 0)
-}
-
-// 64 of the greatest sums, taken from 1 on: nothing up to a billion is as much as nothing earned, and at a billion none is taken.
+// 64 of the greatest sums, taken from 1 on: no gross from 1 to 999,999,999 leaves as much as 0 does, and at a billion none is
+// taken.
 #[test]
 fn most_taken_at_once(rt: HostRuntime) -> Result<(), Fail> {
-    let mut words = [0u64; 2112];
-    open(&mut words, 64, MOST).ok().ok_or("not opened")?;
-    all_laid(&rt, &mut words, &[(TAKE_SUM, 1, MOST, 100_000_000); 64]);
+    let mut words = full_of(&rt, (TAKE_SUM, 1, MOST, 100_000_000))?;
     let table = [
         (ROW, 0, Answer::Two(1, 1)),
         (ROW, 1, Answer::Two(0, 0)),
-        (SAFE, 0, Answer::Number(A_BILLION + 1)),
+        (SAFE, 0, Answer::Number(u64::from(MOST) + 1)),
         (SAFE, 1, Answer::Number(3)),
     ];
     all_say(&rt, &mut words, &table);

@@ -1,4 +1,4 @@
-// The worked books.
+// The worked books of `raise::worked`, and a family's.
 use crate::asking::*;
 use std::test::Fail;
 use wire::Answer;
@@ -45,8 +45,8 @@ fn charge(rt: HostRuntime) -> Result<(), Fail> {
     answers(&rt, &[(TAKE_SUM, 10, 20, 3)], 30, &table)
 }
 
-// A fade takes nine tenths of each unit between 5 and 15, and a tax two more: 5 loses with 6, and of 4 more is left than of 14 and
-// 15.
+// A fade takes nine tenths of each unit between 5 and 15, and a tax two tenths more: 5 loses with 6, and of 4 more is left than of
+// 14 and 15.
 #[test]
 fn taxed_fade(rt: HostRuntime) -> Result<(), Fail> {
     let table = [
@@ -70,12 +70,14 @@ const FAMILY: [(u8, u32, u32, u32); 4] = [
     (FADE, 500, 3_000, 300),
 ];
 
-// A tax of a fifth above 1,000 and of two above 3,000; 200 below 1,500, and 300 that fade by 30 % above 500: 1,350 are left of 1,000,
-// 1,599.50 of 1,499, 1,400 of 1,500 and 2,600 of 3,000.
+// A tax of a fifth above 1,000 and of two above 3,000; 200 below 1,500, and 300 that fade by 30 % above 500: 1,350 are left of
+// 1,000, 1,599.50 of 1,499, 1,400 of 1,500 and 2,600 of 3,000.
 #[test]
 fn left_to_a_family(rt: HostRuntime) -> Result<(), Fail> {
     let table = [
         (LEFT, 1_000, Answer::Two(13_500_000, 0)),
+        (LEFT, 1_300, Answer::Two(15_600_000, 600_000)),
+        (LEFT, 1_480, Answer::Two(16_860_000, 960_000)),
         (LEFT, 1_499, Answer::Two(16_993_000, 998_000)),
         (LEFT, 1_500, Answer::Two(15_000_000, 1_000_000)),
         (LEFT, 3_000, Answer::Two(30_000_000, 4_000_000)),
@@ -84,7 +86,7 @@ fn left_to_a_family(rt: HostRuntime) -> Result<(), Fail> {
     answers(&rt, &FAMILY, 5_000, &table)
 }
 
-// 1,101 to 1,499 lose. Whoever earns 1,300 is safe from 1,625 on, which neither 1,480 nor 1,510 is.
+// 1,101 to 1,499 lose. Whoever earns 1,300 has 1,500 left, of 1,480 more and of 1,500 less, and is safe only from 1,625 on.
 #[test]
 fn offered_to_a_family(rt: HostRuntime) -> Result<(), Fail> {
     let table = [

@@ -15,7 +15,7 @@ pub enum Refusal {
     #[error("the bytes are no call from byte {place} on")]
     Unreadable { place: u64 },
     // 2
-    #[error("a rule out of range or of a kind that can't be done, or an earning above the bound")]
+    #[error("a rule out of range, or an earning above the bound")]
     OutOfRange,
     // 3 at 0 and 1, at an opening
     #[error("a limit of more than 64 rules")]

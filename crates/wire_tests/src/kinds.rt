@@ -47,6 +47,9 @@ fn errors(rt: HostRuntime) -> Result<(), Fail> {
     assert_eq!(rt; text.as_str(), "the bytes are no call from byte 14 on");
     let text = Refusal::from(garbled).to_string(rt.alloc())?;
     assert_eq!(rt; text.as_str(), "the bytes are no call from byte 14 on");
+    let text = Refusal::OutOfRange.to_string(rt.alloc())?;
+    let range = "a rule out of range, or an earning above the bound";
+    assert_eq!(rt; text.as_str(), range);
     let text = Refusal::BookFull.to_string(rt.alloc())?;
     assert_eq!(rt; text.as_str(), "more rules than the limit");
     let text = UnknownKind(5).to_string(rt.alloc())?;

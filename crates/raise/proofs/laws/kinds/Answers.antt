@@ -1,4 +1,4 @@
-use Rattle.raise.proofs.Unused.{others_unused}
+use Rattle.raise.proofs.OtherKinds.{others_unused}
 use Rattle.raise.proofs.laws.kinds.Goals as goal
 
 pub returns : goal.returns

@@ -1,6 +1,6 @@
--- Kinds that no call needs, over whole sessions.
+-- Kinds that no call uses change no answer, over whole sessions.
 use Rattle.std.proofs.Common.{ℕ, Bool, [], sym, ◌∙◌}
-use Rattle.raise.proofs.Unused.{others_unused}
+use Rattle.raise.proofs.OtherKinds.{others_unused}
 use Rattle.session.specs.Kinds.{KeepsAnswers}
 use Rattle.session.proofs.Runs.{told_opened}
 

@@ -1,4 +1,4 @@
--- Kinds that no call needs are nothing to the answers.
+-- Kinds that no call uses change no answer.
 use Rattle.std.proofs.Common.{◌≡◌, ℕ, zero, suc, Bool, true, false, not, ◌&&◌, ◌||◌, List, [], ◌∷◌, refl}
 use Rattle.std.proofs.lemmas.Bool.{and_parts}
 use Rattle.raise.specs.Rules.{Rule}
