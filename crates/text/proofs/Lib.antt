@@ -1,1 +1,4 @@
 pub mod Amounts
+pub mod Digits
+pub mod Pieces
+pub mod ReadBack

@@ -1,9 +1,12 @@
--- Answers as text: the line that tells the answer to a call. Definitions only: nothing is assumed.
+-- Answers as text: the line that tells the answer to a call; and what is told of a row and of an earning. Definitions only: nothing
+-- is assumed.
 --
--- A number is written in decimal. A row and a safe earning come as one more than they are, and 0 where there is none.
+-- A number is written in decimal. In answers a row and a safe earning come as one more than they are, and 0 where there is none.
 use Rattle.std.specs.Prelude.{◌≡◌, ℕ, ◌+◌, ◌-◌, ◌/◌, ◌%◌, ◌<◌, List, ◌++◌, Option, None, Some, codes, decimal, ◌==◌, nat_lt}
 use Rattle.raise.specs.Rules.{pick}
 use Rattle.raise.specs.Calls.{Call, lays, lifts, left_of, next_row, safe, garbled, Answer, refused, number, two}
+use Rattle.text.specs.declared.prospects.Outlook.{Outlook}
+use Rattle.text.specs.declared.prospects.Outlook.TheVariants.{NeverLoses, Loses}
 
 -- ten-thousandths, as units and four places after the point
 abbrev pub parted : ℕ → List ℕ
@@ -66,3 +69,23 @@ abbrev pub AmountsDiffer : Type 0
 AmountsDiffer =
     (i o j p : ℕ) → i < 18446744073709551616 → o < 18446744073709551616 → j < 18446744073709551616 → p < 18446744073709551616 →
     amount i o ≡ amount j p → i + p ≡ j + o
+
+-- ---- rows and earnings
+
+-- a row, and the most that is lost in it
+abbrev pub losing_row : ℕ → ℕ → ℕ → List ℕ
+losing_row first last most = row_text first last ++ (codes ", up to " ++ (parted most ++ codes " less"))
+
+-- from where on an earning that loses is safe, if from anywhere
+abbrev pub safe_or_never : Option ℕ → List ℕ
+safe_or_never None = codes "never safe"
+safe_or_never (Some earning) = safe_text earning
+
+-- what more would do, and from where on an earning that loses is safe
+abbrev pub outlook_text : Outlook → List ℕ
+outlook_text NeverLoses = codes "never loses by earning more"
+outlook_text (Loses earning) = codes "loses by earning more, " ++ safe_or_never earning
+
+-- an earning: what is left of it, and what more would do
+abbrev pub prospect : ℕ → List ℕ → List ℕ → List ℕ
+prospect earning left more = decimal earning ++ (codes ": " ++ (left ++ (codes " left, " ++ more)))

@@ -2,4 +2,14 @@
 #![tactic(auto)]
 
 #[cfg(test)]
+mod desk;
+#[cfg(test)]
 mod lines;
+#[cfg(test)]
+mod numbers;
+#[cfg(test)]
+mod readable;
+#[cfg(test)]
+mod shown;
+#[cfg(test)]
+mod unreadable;

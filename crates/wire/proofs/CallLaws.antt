@@ -1,5 +1,5 @@
 -- Calls are read back from their bytes, nothing else is read as a call, and the place of a refusal is right.
-use Rattle.std.proofs.Common.{◌≡◌, ℕ, zero, suc, ◌+◌, ◌-◌, ◌<◌, ◌≤◌, true, false, ◌&&◌, eqb, ltb, ◌⊎◌, List, [], ◌∷◌, ◌++◌, length, get_or, take, replicate, Ok, Err, Result, sym, refl, ap, ◌∙◌, subst, inl, inr, arith}
+use Rattle.std.proofs.Common.{◌≡◌, ℕ, zero, suc, ◌+◌, ◌-◌, ◌<◌, ◌≤◌, true, false, ◌&&◌, eqb, ltb, ◌⊎◌, List, flat_map, append-nil, [], ◌∷◌, ◌++◌, length, get_or, take, replicate, Ok, Err, Result, sym, refl, ap, ◌∙◌, subst, inl, inr, arith}
 use Rattle.std.proofs.lemmas.List.{take_all, length-append, length-replicate, length-take-le}
 use Rattle.std.proofs.lemmas.Bool.Decides.{nat_tests}
 use Rattle.std.proofs.lemmas.Bool.{and_parts, lt-ltb, le-ltb, ltb-true, true≢false, cases_order, cases_lt}
@@ -8,7 +8,7 @@ use Rattle.raise.specs.Calls.{Call, lays, lifts, left_of, next_row, safe, garble
 use Rattle.raise.specs.Promise.{field, readable, readable_rule, all_below}
 use Rattle.raise.proofs.Below.{below_take, below_both, below_zeros}
 use Rattle.wire.specs.Fields.{bytes_of, number_of, number_at}
-use Rattle.wire.specs.CallBytes.{three, rule_fields, rule_bytes, call_bytes, sized, rule_from, rule_of, laid, one_field, with_field, call_of, is_garbled, Writable, CallsReadBack, CallsDiffer, OnlyCallsRead, Begins, PlaceRight}
+use Rattle.wire.specs.CallBytes.{three, numbers, rule_fields, rule_bytes, call_bytes, sized, rule_from, rule_of, laid, one_field, with_field, call_of, is_garbled, Writable, CallsReadBack, CallsDiffer, OnlyCallsRead, Begins, PlaceRight}
 use Rattle.wire.proofs.Numbers.{bytes_long, number_back, bytes_back, number_below, row_long, row_first, row_second, row_third, row_back, number_fits}
 
 -- ---- bytes by their number
@@ -59,6 +59,17 @@ rule_parts : (k a b c : ℕ) → k ≤ 4 → (rule_bytes (rule_from k a b c) ≡
 unfolding rule_number readable_rule
 rule_parts k a b c l = grind (arith, nat_tests)
 
+three_flat : (a b c : ℕ) → flat_map (bytes_of 4) (a ∷ (b ∷ (c ∷ []))) ≡ three a b c
+three_flat a b c = ap (λ xs. bytes_of 4 a ++ (bytes_of 4 b ++ xs)) (append-nil (bytes_of 4 c))
+
+-- as bytes these are the rule's fields
+pub fields_flat : (r : Rule) → flat_map (bytes_of 4) (numbers r) ≡ rule_fields r
+fields_flat (takes a b r) = three_flat a b r
+fields_flat (gives a b r) = three_flat a b r
+fields_flat (takes_sum a b s) = three_flat a b s
+fields_flat (gives_sum a b s) = three_flat a b s
+fields_flat (fades a r s) = three_flat a r s
+
 fields_fit : (a b c : ℕ) → (field a && (field b && field c)) ≡ true → (a < 4294967296) × (b < 4294967296) × (c < 4294967296)
 fields_fit a b c h = grind (arith, nat_tests)
 
@@ -103,6 +114,10 @@ calls_read_back (left_of g) w = number_call 2 g (omega arith) (omega arith) w.0
 calls_read_back (next_row g) w = number_call 3 g (omega arith) (omega arith) w.0
 calls_read_back (safe g) w = number_call 4 g (omega arith) (omega arith) w.0
 calls_read_back (garbled n) w = absurd (true≢false w.1)
+
+pub laid_back : (r : Rule) (bs : List ℕ) → bs ≡ call_bytes (lays r) → readable_rule r ≡ true → call_of bs ≡ lays r
+unfolding readable
+laid_back r bs e f = rw e (calls_read_back (lays r) (f, refl))
 
 pub calls_differ : CallsDiffer
 calls_differ c d v w e = sym (calls_read_back c v) ∙ ap call_of e ∙ calls_read_back d w

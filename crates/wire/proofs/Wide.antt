@@ -37,15 +37,21 @@ pub eight_at : (bs : List ℕ) (i : ℕ) → i + 8 ≤ length bs → from_le_byt
 eight_at bs i h = eight_read (take 8 (drop i bs)) (length-take-le 8 (drop i bs) (omega (arith, length-drop i bs)))
 
 -- what `to_le_bytes` answers
-eight_written : (n : ℕ) → to_le_bytes w64 n ≡ bytes_of 8 n
+pub four_written : (n : ℕ) → to_le_bytes w32 n ≡ bytes_of 4 n
+unfolding bytes_of
+four_written n = grind arith
+
+pub eight_written : (n : ℕ) → to_le_bytes w64 n ≡ bytes_of 8 n
 unfolding bytes_of
 eight_written n = grind arith
 
-pub all_written : (ns : List ℕ) (ws : List (List ℕ)) → length ws ≡ length ns → ((i : ℕ) → i < length ns → get_or ws i [] ≡ to_le_bytes w64 (get_or ns i 0)) → flat_map (λ w. w) ws ≡ flat_map (bytes_of 8) ns
-all_written [] [] l h = refl
-all_written [] (w ∷ ws) l h = absurd (omega arith)
-all_written (n ∷ ns) [] l h = absurd (omega arith)
-all_written (n ∷ ns) (w ∷ ws) l h =
-    let e : w ≡ bytes_of 8 n = h 0 (omega arith) ∙ eight_written n in
-    let i = all_written ns ws (omega arith) (λ i l. h (suc i) (omega arith)) in
-    rw (e, i)
+-- numbers, each written out
+module _ (write bytes : ℕ → List ℕ) (same : (n : ℕ) → write n ≡ bytes n) where
+  pub all_written : (ns : List ℕ) (ws : List (List ℕ)) → length ws ≡ length ns → ((i : ℕ) → i < length ns → get_or ws i [] ≡ write (get_or ns i 0)) → flat_map (λ w. w) ws ≡ flat_map bytes ns
+  all_written [] [] l h = refl
+  all_written [] (w ∷ ws) l h = absurd (omega arith)
+  all_written (n ∷ ns) [] l h = absurd (omega arith)
+  all_written (n ∷ ns) (w ∷ ws) l h =
+      let e : w ≡ bytes n = h 0 (omega arith) ∙ same n in
+      let i = all_written ns ws (omega arith) (λ i l. h (suc i) (omega arith)) in
+      rw (e, i)

@@ -1,10 +1,11 @@
 // Rules and calls, and how they are read from bytes.
-ghost use Rattle.std.specs.Prelude.{◌≡◌, ◌+◌, length, Some, None, nat_lt};
+ghost use Rattle.std.specs.Prelude.{◌≡◌, ◌+◌, true, length, Some, None, nat_lt};
 ghost use Rattle.raise.specs.Rules.{pick, takes};
-ghost use Rattle.raise.specs.Calls.{rule_number};
+ghost use Rattle.raise.specs.Calls.{rule_number, lays};
+ghost use Rattle.raise.specs.Promise.{readable_rule};
 ghost use Rattle.wire.specs.Fields.{number_at};
 ghost use Rattle.wire.specs.Meaning.{meant, kind_number, meant_or, field_or, asks_or};
-ghost use Rattle.wire.specs.CallBytes.{numbers, rule_from, rule_of, laid, one_field, call_of, CallsReadBack, CallsDiffer, OnlyCallsRead, PlaceRight};
+ghost use Rattle.wire.specs.CallBytes.{numbers, rule_fields, call_bytes, rule_from, rule_of, laid, one_field, call_of, CallsReadBack, CallsDiffer, OnlyCallsRead, PlaceRight};
 
 use crate::kinds::RuleKind;
 use thiserror::Error;
@@ -65,8 +66,10 @@ impl Rule {
 
     // Its three numbers, in the order of its fields. With `kind` the way back from `RuleKind::rule`, and like it no `From`, which
     // takes one value alone.
+    #[tactic(auto, unfolding(raise::specs::Promise::readable_rule))]
     pub fn numbers(self) -> [u32; 3]
-        ensures { result ≡ numbers (meant self) }
+        ensures numbers { result ≡ numbers (meant self) }
+        ensures fit { readable_rule (meant self) ≡ true }
     {
         match self {
             Rule::Take { from, to, rate } | Rule::Give { from, to, rate } => [from, to, rate],
@@ -74,6 +77,37 @@ impl Rule {
             Rule::Fade { from, rate, sum } => [from, rate, sum],
         }
     }
+}
+
+// A rule's three numbers, four bytes each.
+fn rule_fields(rule: Rule) -> [u8; 12]
+    ensures fields { result ≡ rule_fields (meant rule) }
+    ensures fit { readable_rule (meant rule) ≡ true }
+{
+    let mut bytes = [0; 12];
+    bytes.copy_from_slice(rule.numbers().map(u32::to_le_bytes).as_flattened());
+    bytes
+}
+
+// The kind of the call, that of the rule, and its fields.
+#[tactic(auto, unfolding(raise::specs::Calls::rule_number))]
+fn write_lay(rule: Rule) -> [u8; 14]
+    ensures bytes { result ≡ call_bytes (lays (meant rule)) }
+    ensures fit { readable_rule (meant rule) ≡ true }
+{
+    let mut bytes = [0; 14];
+    bytes[1] = rule.kind() as u8;
+    bytes[2..].copy_from_slice(&rule_fields(rule));
+    bytes
+}
+
+// The bytes of the call that lays a rule. They read back as that call.
+#[tactic(auto, using(crate::proofs::CallLaws::laid_back))]
+pub fn lay_bytes(rule: Rule) -> [u8; 14]
+    ensures bytes { result ≡ call_bytes (lays (meant rule)) }
+    ensures back { call_of result ≡ lays (meant rule) }
+{
+    write_lay(rule)
 }
 
 // The field at `at`, low byte first, if its four bytes are there.

@@ -9,6 +9,6 @@ mod files;
 mod kinds;
 
 pub use answers::{Answer, Refusal, UnknownRefusal};
-pub use calls::{Call, Garbled, Rule, read_call, rule_of_kind};
+pub use calls::{Call, Garbled, Rule, lay_bytes, read_call, rule_of_kind};
 pub use files::{Calls, Head, next_call, read_head};
 pub use kinds::{RuleKind, UnknownKind};

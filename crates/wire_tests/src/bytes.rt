@@ -1,7 +1,9 @@
 // Calls, answers and files as bytes.
 use std::process::Abort;
 use std::test::Fail;
-use wire::{Answer, Call, Calls, Garbled, Head, Refusal, Rule, next_call, read_call, read_head};
+use wire::{
+    Answer, Call, Calls, Garbled, Head, Refusal, Rule, lay_bytes, next_call, read_call, read_head,
+};
 
 // A lay of rule kind 2 with fields 1, 256 and 65536, and a byte too many.
 const LAY: [u8; 15] = [0, 2, 1, 0, 0, 0, 0, 1, 0, 0, 0, 0, 1, 0, 9];
@@ -35,6 +37,7 @@ fn readable(rt: HostRuntime) {
         sum: 65536,
     };
     assert_eq!(rt; read_call(&LAY[..14]), Ok(Call::Lay(rule)));
+    assert_eq!(rt; lay_bytes(rule).as_slice(), &LAY[..14]);
     assert_eq!(rt;
         read_call(&[1, 255, 255, 255, 255]),
         Ok(Call::Lift(4294967295))

@@ -1,0 +1,15 @@
+use Rattle.std.proofs.Common.{◌≡◌, ℕ, ◌<◌, [], get_or, w32, rules, ap, ◌∙◌, arith}
+use Rattle.std.specs.Int.{to_le_bytes}
+use Rattle.std.specs.List.{flat_map}
+use Rattle.wire.specs.Fields.{bytes_of}
+use Rattle.wire.proofs.Wide.{all_written, four_written}
+use Rattle.wire.proofs.CallLaws.{fields_flat}
+use Rattle.wire.proofs.calls.rule_fields.Goals as goal
+
+pub returns-clause-fields : goal.returns-clause-fields
+returns-clause-fields c =
+    let ns = c.numbers.result in
+    let ws = c.map.result in
+    let each : (i : ℕ) → i < 3 → get_or ws i [] ≡ to_le_bytes w32 (get_or ns i 0) = λ i l. search (rules, (c.map.ensures.items.at i 0 [] l).2) in
+    c.copy_from_slice.ensures.after ∙ c.as_flattened.ensures.value ∙ all_written (to_le_bytes w32) (bytes_of 4) four_written ns ws (omega arith) (λ i l. each i (omega arith)) ∙ ap (flat_map (bytes_of 4)) c.numbers.ensures.numbers
+    ∙ fields_flat _
