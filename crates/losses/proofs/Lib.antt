@@ -1,4 +1,6 @@
 pub mod Lists
+pub mod Worst
+pub mod Descent
 pub mod Behind
 pub mod Slots
 pub mod Walk

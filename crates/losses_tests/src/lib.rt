@@ -1,10 +1,12 @@
-// Tests of the ranges of those who lose, as tables: which they are, the row from any gross, and their words.
+// Tests of the ranges of those who lose, as tables: which they are, the row from any gross, the most that is lost, and their words.
 #![tactic(auto)]
 
 #[cfg(test)]
 mod cuts;
 #[cfg(test)]
 mod many;
+#[cfg(test)]
+mod most;
 #[cfg(test)]
 mod rows;
 #[cfg(test)]

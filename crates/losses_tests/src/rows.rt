@@ -5,7 +5,7 @@ use raise::LosingRange;
 use std::process::Abort;
 
 // Words for the rows of 64 rules, of which so many are for the table.
-const WORDS: usize = 1032;
+pub(crate) const WORDS: usize = 1032;
 
 const TABLE: usize = 774;
 
