@@ -8,6 +8,8 @@ pub enum Fault {
     // more than one word on the command line
     #[error("usage: answer [FILE], one file of calls, or standard input")]
     Usage,
+    #[error("command line: {0}")]
+    Words(io::Error),
     #[error("{name}: {why}")]
     File { name: String, why: io::Error },
     #[error("standard input: {0}")]

@@ -1,0 +1,3 @@
+pub mod Reading
+pub mod Drafts
+pub mod Report
