@@ -1,7 +1,7 @@
 -- Rules as lines, both ways: what every line says, and the line of a rule. Definitions and a statement only: nothing is assumed.
 --
--- A line is words apart by blanks, and a comment from '#' on, which says nothing. A rate is a percentage; `on` is up to a billion,
--- where a sum ends one before; and `below` is from nothing on.
+-- A line is words apart by blanks, and a comment from '#' on, which says nothing. A rate is a percentage. `on` is up to a billion, so
+-- that a sum that goes on holds up to one below; `below` is from nothing on.
 use Rattle.std.specs.Prelude.{◌≡◌, ℕ, ◌/◌, ◌%◌, ◌<◌, true, List, [], ◌∷◌, ◌++◌, Option, Some, None, codes, decimal, ◌==◌}
 use Rattle.raise.specs.Rules.{pick, Rule, takes, gives, takes_sum, gives_sum, fades}
 use Rattle.raise.specs.Calls.{fine}

@@ -1,5 +1,6 @@
 // Answers, amounts, rows, earnings and rules as text. This crate owns how answers are written, and what is told of a row and of an
-// earning; and rules as lines, both ways. specs/ says for every call and answer which line tells it, and for every line what it says.
+// earning; and rules as lines, both ways. specs/ says for every call and answer which line tells it, and for every line what it
+// says.
 #![tactic(auto)]
 
 mod answers;

@@ -127,8 +127,8 @@ fn parse_line(line: &[u8]) -> Option<RuleLine>
     read_rule(read_words(line)?.as_slice())
 }
 
-// What a line says, without its newline; none where it can't be read. The line that is written of a bound or of a rule reads back, and
-// each form of a line says what it is to say.
+// What a line says, without its newline; none where it can't be read. The line that is written of a bound or of a rule reads back,
+// and each form of a line says what it is to say.
 #[tactic(auto, using(crate::proofs::ReadBack::reads_back, crate::proofs::ReadBack::forms_read))]
 pub fn read_line(line: &[u8]) -> Option<RuleLine>
     ensures said { said result ≡ line_says line.now }
