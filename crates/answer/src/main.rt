@@ -11,7 +11,7 @@ use std::{env, fs};
 use transcript::answer_file;
 
 const USAGE: &str = "\
-usage: answer [FILE]
+usage: answer [FILE], or answer --help
 Answers the calls in FILE, or in standard input without FILE, a line each. FILE begins with the limit of rules,
 16 at most, and the bound, four bytes each, low byte first; then for each call its length in four bytes, and its bytes.
 A call is a byte for its kind (0 lay, 1 lift, 2 left, 3 row, 4 safe) and its numbers, four bytes each; the rule

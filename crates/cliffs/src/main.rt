@@ -1,5 +1,5 @@
 // Reads a family's rules as text and prints the rows of those who lose by earning more; then, for each earning that is named, what
-// more would do. The text is all of it the result of `report`; here it is only read for and printed.
+// more would do. The text is all of it the result of `report`; this program only reads the file and prints it.
 #![tactic(auto)]
 
 mod faults;
@@ -10,13 +10,13 @@ use std::process::ExitCode;
 use std::{env, fs, io};
 
 const USAGE: &str = "\
-usage: cliffs [FILE] [EARNING..]
+usage: cliffs [FILE] [EARNING..], or cliffs --help
 Prints the earnings at which somebody loses by earning more, as rows, with the most that is lost in each; then
-for each EARNING what is left of it, whether somebody who has it loses by earning more, and from where on it is
-safe. Rules are read from FILE, or from standard input without FILE; to name earnings without FILE write - first.
+for each EARNING what is left of it, whether somebody who has it loses by earning more, and if so from where on
+it is safe. Rules are read from FILE, or from standard input; to name earnings without FILE write - first.
 A line each, # begins a comment, 16 rules at most; a rate (up to two decimals) or a sum, take or give, with one of
 from A to B, from A on, below B:
-    bound 5000                     the highest earning that is looked at; without this line 999999999
+    bound 5000                     the highest earning that is looked at; first, or left out, then 999999999
     take 20 % from 1000 to 3000    of each unit that is earned above 1000, up to 3000
     take 50 from 1500 on           50 at once, where 1500 or more is earned
     give 200 below 1500            200, where less than 1500 is earned

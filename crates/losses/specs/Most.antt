@@ -19,7 +19,7 @@ unfoldable pub greatest_over : (ℕ → ℕ) → ℕ → ℕ → ℕ
 greatest_over f zero x = 0
 greatest_over f (suc n) x = greater (f x) (greatest_over f n (suc x))
 
--- the most that who earns g loses by earning more, up to b
+-- the most that somebody who earns g loses by earning more, up to b
 abbrev pub loss : List Rule → ℕ → ℕ → ℕ
 loss rs b g = greatest_over (shortfall rs g) (b - g) (suc g)
 
@@ -48,7 +48,7 @@ abbrev pub above_lowest : ℤ → Option ℤ → ℤ
 above_lowest x None = pos 0
 above_lowest x (Some m) = int_max (x -ℤ m) (pos 0)
 
--- the most that who earns g loses is net of g less the lowest net of all larger earnings, if that is more than 0
+-- the most that somebody who earns g loses is net of g less the lowest net of all larger earnings, if that is more than 0
 abbrev pub LossByLowest : List Rule → ℕ → Type 0
 LossByLowest rs b = (g : ℕ) → pos (loss rs b g) ≡ above_lowest (net rs g) (lowest_from rs b (suc g))
 

@@ -1,4 +1,4 @@
-// The most that is lost in a range: what trying every pair of grosses gives, by a model apart from the code.
+// The most that is lost in a range: the numbers are what trying every pair of grosses gives.
 use crate::rows::*;
 use book::Book;
 use losses::{most_lost, words_for};

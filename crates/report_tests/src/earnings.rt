@@ -3,7 +3,7 @@ use crate::asking::*;
 use std::process::Abort;
 use std::test::Fail;
 
-// With earnings that fit around it nothing is told of those either.
+// An earning that fits before it is not told, and a later word that doesn't fit is not the one that is shown.
 fn no_earning(rt: &(impl Abort + AllocGlobal), word: &str) -> Result<(), Fail> {
     let message = format!(in rt.alloc();
         "cliffs: '{word}' is no earning\nexpected a whole number up to the bound, which is 40\n"

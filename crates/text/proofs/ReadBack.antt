@@ -19,7 +19,7 @@ use Rattle.text.specs.declared.rule_lines.Span.{Span}
 use Rattle.text.specs.declared.rule_lines.Flow.TheVariants.{Rate, Sum}
 use Rattle.text.specs.RuleLines.{unreadable, span_of, percentage, rate_of, with_rate, with_sum, flow_of, said_by, rule_text, line_text, line_says, lays, bounds, nothing, ReadsBack, FormsRead}
 
--- ---- no line has more than seven words
+-- ---- no line that can be read has more than seven words
 
 span_short : (ws : List Word) → 4 < length ws → span_of ws ≡ None
 span_short (word.From ∷ (word.Number a ∷ (word.To ∷ (word.Number b ∷ [])))) l = absurd (omega (arith, l))

@@ -21,7 +21,7 @@ abbrev pub onward : (ℕ → Bool) → List ℕ → List ℕ
 onward stops [] = []
 onward stops (c ∷ cs) = pick (stops c) (c ∷ cs) (onward stops cs)
 
--- a blank: a space, a tab, or the carriage return that may stand before a newline
+-- a blank: a space, a tab, and a carriage return, too, as it may stand before a newline
 abbrev pub is_blank : ℕ → Bool
 is_blank c = c == 32 || (c == 9 || c == 13)
 

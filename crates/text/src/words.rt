@@ -28,7 +28,7 @@ pub(crate) enum Word {
     Other,
 }
 
-// The most words that a line has: `fade 300 at 30 % above 500`, or `take 20 % from 1000 to 3000`.
+// The most words that a line has that can be read: `fade 300 at 30 % above 500`, or `take 20 % from 1000 to 3000`.
 pub(crate) const MOST_WORDS: usize = 7;
 
 fn spells(word: &[u8], key: &str) -> bool
