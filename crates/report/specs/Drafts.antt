@@ -12,6 +12,7 @@ use Rattle.report.specs.declared.Outcome.{Outcome}
 use Rattle.report.specs.declared.Outcome.TheVariants.{Told, Refused}
 use Rattle.report.specs.Reading.{Draft, Misfit, with_line, with_call}
 
+-- the book that is made of a draft
 abbrev pub book : Draft → Book
 book d = record { limit = 16; bound = d.bound; rules = d.rules }
 
@@ -26,26 +27,30 @@ Comes (Ok d) ws (Err e) = ⊥
 Comes (Err k) ws (Ok fresh) = ⊥
 Comes (Err k) ws (Err e) = refusal_number e ≡ k
 
+-- a rule laid: in the words old, and what is in new
 abbrev pub Laid : List ℕ → List ℕ → Rule → Result Bool Refusal → Type 0
 Laid old new rule result = (d : Draft) → Holds old d → Comes (with_call d (calls.lays (meant rule))) new result
 
+-- a bound, where one may still come
 abbrev pub Bounded : List ℕ → List ℕ → ℕ → Result Bool Refusal → Type 0
 Bounded old new n result = (d : Draft) → Holds old d → d.fresh ≡ true → Comes (with_line d (bounds n)) new result
 
+-- a line more, by what it says
 abbrev pub Added : List ℕ → List ℕ → Bool → Says → Result Bool Refusal → Type 0
 Added old new fresh says result = (d : Draft) → Holds old d → fresh ≡ d.fresh → Comes (with_line d says) new result
 
+-- what the code's value says of a line that was refused
 abbrev pub misfit : declared.Misfit → Misfit
 misfit m = record { line = m.line; text = m.text.now; number = refusal_number m.refusal }
 
--- what the lines of a file come to
+-- what the lines of a file come to: the words hold the draft, or the first line that doesn't fit
 abbrev pub Drafted : Result Draft Misfit → List ℕ → Result (Unit {0}) declared.Misfit → Type 0
 Drafted (Ok d) ws (Ok u) = Holds ws d
 Drafted (Ok d) ws (Err m) = ⊥
 Drafted (Err e) ws (Ok u) = ⊥
 Drafted (Err e) ws (Err m) = misfit m ≡ e
 
--- the book that a file makes
+-- what the file comes to: the draft's book, or that line
 abbrev pub Filed : Result Draft Misfit → Result Book declared.Misfit → Type 0
 Filed (Ok d) (Ok b) = b ≡ book d
 Filed (Ok d) (Err m) = ⊥

@@ -2,8 +2,6 @@
 #![tactic(auto)]
 
 #[cfg(test)]
-mod desk;
-#[cfg(test)]
 mod lines;
 #[cfg(test)]
 mod numbers;
@@ -11,5 +9,7 @@ mod numbers;
 mod readable;
 #[cfg(test)]
 mod shown;
+#[cfg(test)]
+mod told;
 #[cfg(test)]
 mod unreadable;
