@@ -13,3 +13,4 @@ pub mod Ranges
 pub mod Trial
 pub mod Picks
 pub mod OtherKinds
+pub mod Numbered

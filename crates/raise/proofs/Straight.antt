@@ -20,7 +20,7 @@ net_order rs g h = grind (arith, ints)
 abbrev pub Off : ℕ → ℕ → ℕ → Type 0
 Off from g x = (x ≤ from) ⊎ (g < x)
 
-minus_times : (r k : ℕ) → neg_ℤ (pos r) *ℤ pos k ≡ neg_ℤ (pos (r * k))
+pub minus_times : (r k : ℕ) → neg_ℤ (pos r) *ℤ pos k ≡ neg_ℤ (pos (r * k))
 minus_times zero k = let z : 0 * k ≡ 0 = omega arith in zero-*ℤ (pos k) ∙ sym (ap (λ n. neg_ℤ (pos n)) z)
 minus_times (suc r) k = negsuc-*ℤ-pos r k
 
@@ -106,7 +106,7 @@ share_straight (fades a (suc r) s) from to c g lo hi =
 -- ---- all rules
 
 -- two lines added are a line
-plus_times : (c d : ℤ) (k : ℕ) → (c +ℤ d) *ℤ pos k ≡ (c *ℤ pos k) +ℤ (d *ℤ pos k)
+pub plus_times : (c d : ℤ) (k : ℕ) → (c +ℤ d) *ℤ pos k ≡ (c *ℤ pos k) +ℤ (d *ℤ pos k)
 plus_times c d k =
     let z = c +ℤ d in
     let s : up z + (down c + down d) ≡ down z + (up c + up d) = omega (arith, ints) in

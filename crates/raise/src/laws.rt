@@ -1,8 +1,8 @@
 // What is true of the definitions, whatever the rules are. These functions have nothing to do: what each ensures is a law,
 // and without the law's proof the crate is refused.
-ghost use Rattle.std.specs.Prelude.{◌≡◌, ℕ, suc, ◌<◌, ◌≤◌, Bool, true, List, [], ◌∷◌, ◌++◌, ℤ, Some, Decides, int_lt};
+ghost use Rattle.std.specs.Prelude.{◌≡◌, ℕ, suc, ◌<◌, ◌≤◌, Bool, true, List, [], ◌∷◌, ◌++◌, length, ℤ, Some, Decides, int_lt};
 ghost use Rattle.raise.specs.Rules.{Rule, less_left, loses, safe_from};
-ghost use Rattle.raise.specs.Calls.{Call, Answer, Limits, lays, next_row, fine, changed, told, answers};
+ghost use Rattle.raise.specs.Calls.{Call, Answer, Limits, lays, lifts, next_row, number, fine, changed, told, answers};
 ghost use Rattle.raise.specs.Promise.{borders, whole, Shown, NeverLess, WhereToLook, AnyOrder, RatesAlone, SafeFrom};
 ghost use Rattle.raise.specs.Net.{net, share, Straight, breaks, breakpoints, clear, SameOrPast, slope_by, slope};
 ghost use Rattle.raise.specs.Lowest.{lowest_from, Lowest, NetLine, lowest_with, loses_at};
@@ -36,6 +36,13 @@ pub fn where_to_look()
 pub fn any_order()
     ensures stated { AnyOrder }
     ensures asked { (l : Limits) (rs ss : List Rule) (r q : Rule) → AskedAlike l (rs ++ (r ∷ (q ∷ ss))) (rs ++ (q ∷ (r ∷ ss))) }
+{}
+
+// A rule is lifted by how many lie before it, and all others stay, in their order. So the number that is told of a rule as it is
+// laid lifts just that rule, whatever is laid after it.
+pub fn numbered()
+    ensures lifted { (rs ss : List Rule) (r : Rule) → changed (rs ++ (r ∷ ss)) (lifts (length rs)) ≡ rs ++ ss }
+    ensures laid { (l : Limits) (rs ss : List Rule) (r : Rule) (n : ℕ) → told l rs (lays r) ≡ number n → changed (changed rs (lays r) ++ ss) (lifts n) ≡ rs ++ ss }
 {}
 
 // How much rates and fades may take together of each unit so that nobody loses: all of it, and not a ten-thousandth more.

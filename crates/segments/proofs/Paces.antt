@@ -38,11 +38,11 @@ slope_as_on rs g = sym (slope_same (nth_holds rs g) rs g (λ i. refl))
 
 -- ---- sizes
 
-neg_abs : (n : ℕ) → nat_abs (neg_ℤ (pos n)) ≡ n
+pub neg_abs : (n : ℕ) → nat_abs (neg_ℤ (pos n)) ≡ n
 neg_abs zero = refl
 neg_abs (suc n) = refl
 
-sum_abs : (y z : ℤ) → nat_abs (y +ℤ z) ≤ nat_abs y + nat_abs z
+pub sum_abs : (y z : ℤ) → nat_abs (y +ℤ z) ≤ nat_abs y + nat_abs z
 sum_abs (pos a) (pos b) = omega arith
 sum_abs (pos a) (negsuc b) = grind (arith, ints)
 sum_abs (negsuc a) (pos b) = grind (arith, ints)
