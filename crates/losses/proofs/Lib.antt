@@ -5,3 +5,4 @@ pub mod Behind
 pub mod Slots
 pub mod Walk
 pub mod Firsts
+pub mod Risen

@@ -40,7 +40,7 @@ fn falling_part(entry: Entry) -> Option<LosingRange>
 }
 
 // On one that doesn't fall those lose who have more than the lowest beyond.
-fn rising_part(entry: Entry) -> Option<LosingRange>
+fn part_above(entry: Entry) -> Option<LosingRange>
     requires some { entry.segment.from < entry.segment.to }
     requires rises { pos 0 ≤ℤ entry.segment.slope }
     ensures { PartOf (loses_on entry) entry.segment.from entry.segment.to result }
@@ -50,6 +50,21 @@ fn rising_part(entry: Entry) -> Option<LosingRange>
         first,
         last: entry.segment.to - 1,
     })
+}
+
+// The same; if anybody loses there, the last does. Only then is it divided, which takes longer than all else.
+#[tactic(auto, using(crate::proofs::Risen::nobody))]
+fn rising_part(entry: Entry) -> Option<LosingRange>
+    requires sized { SizedEntry entry }
+    requires some { entry.segment.from < entry.segment.to }
+    requires rises { pos 0 ≤ℤ entry.segment.slope }
+    ensures { PartOf (loses_on entry) entry.segment.from entry.segment.to result }
+{
+    let last = entry.segment.to - 1;
+    if !lower_beyond(entry, entry.segment.net_at(last)) {
+        return None;
+    }
+    part_above(entry)
 }
 
 // The grosses of a segment that lose.

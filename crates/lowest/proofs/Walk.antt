@@ -1,23 +1,20 @@
 -- The walk from the bound down: what has been written where it stands, and one entry more.
-use Rattle.std.proofs.Common.{◌≡◌, ℕ, suc, ◌+◌, ◌-◌, ◌*◌, ◌<◌, ◌≤◌, false, leb, List, [], ◌∷◌, ◌++◌, map, reverse, length, take, drop, ℤ, Some, None, Option, sym, refl, ap, ◌∙◌, inl, inr, arith}
+use Rattle.std.proofs.Common.{◌≡◌, ℕ, suc, ◌+◌, ◌-◌, ◌*◌, ◌≤◌, false, leb, List, [], ◌∷◌, ◌++◌, map, reverse, length, take, drop, ℤ, Some, None, Option, sym, refl, ap, ◌∙◌, inl, inr, arith}
 use Rattle.std.proofs.lemmas.Grind.{reverse_onto}
 use Rattle.std.proofs.lemmas.List.{length-reverse, length-map, length_push, map-append}
 use Rattle.std.proofs.lemmas.Bool.{lt-leb}
 use Rattle.raise.specs.Rules.{Rule}
 use Rattle.raise.specs.Lowest.{least_over, lowest_from, lowest_with}
 use Rattle.raise.proofs.Lows.{lowest_down}
-use Rattle.raise.specs.Net.{breakpoints}
-use Rattle.wire.specs.declared.calls.Rule as declared
-use Rattle.book.specs.Meant.{all_meant}
 use Rattle.segments.specs.declared.lines.Segment.{Segment}
 use Rattle.segments.specs.Points.{next_breakpoint}
 use Rattle.segments.specs.Segments.{segment_at, segments_from}
 use Rattle.segments.proofs.Cover.{segment_line, one_more, at_most, segment_right}
 use Rattle.lowest.specs.declared.entries.Entry.{Entry}
-use Rattle.lowest.specs.Below.{greatest_below, breakpoint_below}
+use Rattle.hinges.specs.Below.{breakpoint_below}
 use Rattle.lowest.specs.Entries.{width, entry_words, table_words}
 use Rattle.lowest.specs.Table.{entry, table, most_entries}
-use Rattle.lowest.proofs.Points.{Stands, Below, is_below, by_no_rule}
+use Rattle.lowest.proofs.Points.{Stands, Below, is_below}
 use Rattle.book.proofs.Stored.{one_written}
 use Rattle.lowest.proofs.Words.{entry_long}
 
@@ -68,28 +65,30 @@ module _ (rs : List Rule) (b : ℕ) where
   state : {ws : List ℕ} {x count : ℕ} {m : Option ℤ} {us : List ℕ} → At ws x count m us → State ws x count m us
   state (at s) = s
 
-  pub begins : (ws : List ℕ) (n : ℕ) → n ≡ b → At ws (n + 1) 0 None ws
+  pub stands : {ws : List ℕ} {x count : ℕ} {m : Option ℤ} {us : List ℕ} → At ws x count m us → Stands rs b x
+  stands h = (state h).stands
+
+  pub begins : (ws : List ℕ) (n : ℕ) → n ≡ b → At ws (suc n) 0 None ws
   unfolding least_over
   begins ws n e =
-      let s : n + 1 ≡ suc b = omega arith in
-      let z : suc b - (n + 1) ≡ 0 = omega arith in
-      let m : entries_from (n + 1) ≡ [] = ap entries_from s ∙ none_past in
+      let s : suc n ≡ suc b = omega arith in
+      let z : suc b - suc n ≡ 0 = omega arith in
+      let m : entries_from (suc n) ≡ [] = ap entries_from s ∙ none_past in
       at (record { stands = (omega arith, omega arith, inr s); counted = rw m refl; lowest = rw z refl; written = rw m refl })
 
--- one entry more, down to y, which was found once no rule was left to be asked
-module _ {rs : List Rule} {b : ℕ} {ws : List ℕ} {x count : ℕ} {m : Option ℤ} {us : List ℕ} (h : At rs b ws x count m us)
-    (left : List declared.Rule) (y : ℕ) (asked : greatest_below (breakpoints (all_meant left)) x y ≡ breakpoint_below rs x) (none : length left < 1) where
+-- one entry more, down to y
+module _ {rs : List Rule} {b : ℕ} {ws : List ℕ} {x count : ℕ} {m : Option ℤ} {us : List ℕ} (h : At rs b ws x count m us) (y : ℕ) (found : y ≡ breakpoint_below rs x) where
   a : State rs b ws x count m us
   a = state rs b h
 
   pub below : Below rs b x y
-  below = rw (by_no_rule left x y none ∙ asked) (is_below rs b x a.stands)
+  below = rw found (is_below rs b x a.stands)
 
   pub within : y ≤ b
   within = omega (arith, below.less, a.stands.1)
 
-  pub room : count + 1 ≤ most_entries rs
-  room =
+  pub room_for_one : count + 1 ≤ most_entries rs
+  room_for_one =
       let added : Entry = record { segment = segment_at rs b y; lowest_above = lowest_from rs b x } in
       omega (arith, few rs b y, ap length (one_below rs b x y a.stands below), length_push (entries_from rs b x) added, a.counted)
 

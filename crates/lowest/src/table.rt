@@ -1,13 +1,12 @@
-// The walk from the bound down, by the next breakpoint below, that writes the table.
+// The walk from the bound down, segment by segment, that writes the table.
 ghost use Rattle.std.specs.Prelude.{◌≡◌, ◌+◌, ◌*◌, ◌≤◌, ◌++◌, length, take, drop};
 ghost use Rattle.std.specs.List.{AllByRecursion};
 ghost use Rattle.lowest.specs.Entries.{width, entry_words, table_words, Fits};
 ghost use Rattle.lowest.specs.Table.{table, most_entries, with_table, IsTable, SizedEntry, TableTells, Stored};
 
-use crate::below::nearest_below;
 use crate::entries::{ENTRY_WORDS, Entry};
 use book::Book;
-use segments::{segment_from, span_of};
+use hinges::{Left, hinges_of};
 
 // The i-th entry of a part, written.
 fn put_entry(part: &mut [u64], i: usize, entry: Entry)
@@ -19,7 +18,7 @@ fn put_entry(part: &mut [u64], i: usize, entry: Entry)
 }
 
 // The table from the beginning of the part on, and how many entries it has.
-#[tactic(auto, using(crate::proofs::Walk::begins, crate::proofs::Points::by_rule))]
+#[tactic(auto, using(crate::proofs::Walk::begins))]
 fn write_entries(part: &mut [u64], book: &Book) -> usize
     requires { width * most_entries book.now.rules ≤ length part.old }
     ensures count { result ≡ length (table book.now.rules book.now.bound) }
@@ -27,32 +26,34 @@ fn write_entries(part: &mut [u64], book: &Book) -> usize
     ensures sized { AllByRecursion SizedEntry (table book.now.rules book.now.bound) }
     ensures fits { AllByRecursion Fits (table book.now.rules book.now.bound) }
 {
+    let in_order = hinges_of(book);
+    let hinges = in_order.as_slice();
     let mut count = 0;
-    let mut to = book.bound() + 1;
+    let mut last = book.bound();
+    let mut left = Left::up_to(hinges, last);
     let mut lowest_above = None;
     'breakpoints: loop {
-        let mut from = 0;
-        let mut left = book.rules();
-        'rules: loop {
-            if let [rule, rest @ ..] = left {
-                from = nearest_below(span_of(*rule), to, from);
-                left = rest;
-                continue 'rules;
-            }
-            // Every rule was asked: `from` is the next breakpoint below `to`.
-            let segment = segment_from(book, from);
-            let entry = Entry {
-                segment,
-                lowest_above,
+        let segment = left.segment(hinges, last);
+        let entry = Entry {
+            segment,
+            lowest_above,
+        };
+        put_entry(part, count, entry);
+        count += 1;
+        if segment.from == 0 {
+            break 'breakpoints;
+        }
+        lowest_above = Some(entry.lowest());
+        last = segment.from - 1;
+        left = left.back_to(segment);
+        // The hinges at the breakpoint are undone one by one; once none is left there, the next segment ends before it.
+        'hinges: loop {
+            let Some(fewer) = left.without_last(hinges, segment.from) else {
+                left = left.one_below(hinges, segment.from);
+                continue 'breakpoints;
             };
-            put_entry(part, count, entry);
-            count += 1;
-            if from == 0 {
-                break 'breakpoints;
-            }
-            lowest_above = Some(entry.lowest());
-            to = from;
-            continue 'breakpoints;
+            left = fewer;
+            continue 'hinges;
         }
     }
     count

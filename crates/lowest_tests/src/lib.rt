@@ -1,9 +1,7 @@
 // Tests of the table of segments, as tables: its entries from the last segment down, where the lowest beyond lies, and the words
-// around it; and of the next breakpoint below.
+// around it.
 #![tactic(auto)]
 
-#[cfg(test)]
-mod below;
 #[cfg(test)]
 mod many;
 #[cfg(test)]

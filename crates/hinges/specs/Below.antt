@@ -1,8 +1,7 @@
 -- The next breakpoint below an earning. Definitions only: nothing is assumed.
-use Rattle.std.specs.Prelude.{◌≡◌, ℕ, ◌<◌, true, ◌&&◌, List, [], ◌∷◌, Some, None, Option, nat_lt}
+use Rattle.std.specs.Prelude.{◌≡◌, ℕ, ◌<◌, true, ◌&&◌, List, [], ◌∷◌, nat_lt}
 use Rattle.raise.specs.Rules.{pick, Rule}
 use Rattle.raise.specs.Net.{breakpoints, clear, among}
-use Rattle.segments.specs.declared.spans.Span.{Span}
 
 -- y, if it is below x and above m
 abbrev pub nearer_below : ℕ → ℕ → ℕ → ℕ
@@ -25,11 +24,3 @@ pub record Previous (points : List ℕ) (x y : ℕ) : Type 0 where
 
 abbrev pub BreakpointsBelow : Type 0
 BreakpointsBelow = (rs : List Rule) (x : ℕ) → 0 < x → Previous (breakpoints rs) x (breakpoint_below rs x)
-
--- by an end, if there is one, and by both ends of a span
-abbrev pub nearer_end_below : ℕ → Option ℕ → ℕ → ℕ
-nearer_end_below x None m = m
-nearer_end_below x (Some y) m = nearer_below x y m
-
-abbrev pub nearest_below : Span → ℕ → ℕ → ℕ
-nearest_below s x m = nearer_end_below x s.to (nearer_below x s.from m)
