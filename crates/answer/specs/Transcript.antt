@@ -1,5 +1,6 @@
--- What the program prints for a file of calls: a line for each call. Nothing is assumed.
-use Rattle.std.specs.Prelude.{ℕ, List, [], ◌∷◌, ◌++◌, map, drop, replicate, codes}
+-- What the program prints for a file of calls: a line for each call; and what a head lacks. Nothing is assumed.
+use Rattle.std.specs.Prelude.{ℕ, List, [], ◌∷◌, ◌++◌, map, drop, replicate, codes, nat_lt}
+use Rattle.raise.specs.Rules.{pick}
 use Rattle.raise.specs.Calls.{Call, Answer, Limits, refused, number, two, answers}
 use Rattle.wire.specs.Fields.{number_at}
 use Rattle.wire.specs.CallBytes.{call_of}
@@ -35,3 +36,7 @@ told_in ws l bs = unless_opened (opening ws l) (lines (map call_of (calls_in bs)
 -- of a file: its head has the limits, and memory is lent for 16 rules
 abbrev pub transcript : List ℕ → List ℕ
 transcript file = told_in (replicate (asked 16) 0) (limited (number_at 4 file 0) (number_at 4 file 4)) (drop 8 file)
+
+-- what a head lacks that ends after n bytes: the bound, and the limit too where even its four bytes are not all there
+abbrev pub missing : ℕ → List ℕ
+missing n = pick (nat_lt n 4) (codes "the limit of rules and the bound are missing") (codes "the bound is missing")

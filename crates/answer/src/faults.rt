@@ -1,4 +1,7 @@
 // Why the program ends with status 1.
+ghost use Rattle.std.specs.Prelude.{◌≡◌};
+ghost use Rattle.answer.specs.Transcript.{missing};
+
 use std::alloc::AllocError;
 use std::io;
 use thiserror::Error;
@@ -24,7 +27,9 @@ pub enum Fault {
 }
 
 // What a head lacks that ends after so many bytes.
-fn missing_after(bytes: usize) -> &'static str {
+fn missing_after(bytes: usize) -> &'static str
+    ensures { result.now ≡ missing bytes }
+{
     if bytes < 4 {
         "the limit of rules and the bound are missing"
     } else {

@@ -45,13 +45,28 @@ fn errors(rt: HostRuntime) -> Result<(), Fail> {
     let garbled = Garbled { place: 14 };
     let text = garbled.to_string(rt.alloc())?;
     assert_eq!(rt; text.as_str(), "the bytes are no call from byte 14 on");
-    let text = Refusal::from(garbled).to_string(rt.alloc())?;
-    assert_eq!(rt; text.as_str(), "the bytes are no call from byte 14 on");
-    let text = Refusal::OutOfRange.to_string(rt.alloc())?;
-    let range = "a rule out of range, or an earning above the bound";
-    assert_eq!(rt; text.as_str(), range);
-    let text = Refusal::BookFull.to_string(rt.alloc())?;
-    assert_eq!(rt; text.as_str(), "more rules than the limit");
+    let refusals = [
+        (
+            Refusal::from(garbled),
+            "the bytes are no call from byte 14 on",
+        ),
+        (
+            Refusal::OutOfRange,
+            "a rule out of range, or an earning above the bound",
+        ),
+        (Refusal::TooManyRules, "a limit of more than 64 rules"),
+        (Refusal::BoundTooHigh, "a bound above 1,000,000,000"),
+        (
+            Refusal::MemoryTooSmall,
+            "memory that is too small, or holds no opened book",
+        ),
+        (Refusal::NoSuchRule, "a rule that is not there"),
+        (Refusal::BookFull, "more rules than the limit"),
+    ];
+    for (refusal, said) in refusals {
+        let text = refusal.to_string(rt.alloc())?;
+        assert_eq!(rt; text.as_str(), said);
+    }
     let text = UnknownKind(5).to_string(rt.alloc())?;
     assert_eq!(rt; text.as_str(), "no kind of rule has the number 5");
     let unknown = UnknownRefusal {
