@@ -201,38 +201,52 @@ fn nothing_is_found_where_there_is_no_flaw() {
     assert_eq!(memories(&Session, 1, 5000), Ok(()));
 }
 
+fn all_show(table: &[(Flaw, usize, &str, &str)]) {
+    for &(flaw, most, call, difference) in table {
+        shows(flaw, most, call, difference);
+    }
+}
+
 #[test]
 fn wrong_answers() {
-    shows(RowCutShort, 4, "  row from", "answered");
-    shows(SafeTooLow, 4, "  safe above", "answered");
-    shows(LeftInForOut, 2, "  left of", "answered");
-    shows(SumHoldsAtItsEnd, 6, "  ", "answered");
-    shows(FadeWithoutItsLastUnit, 2, "  left of", "answered");
-    shows(RowOfOneLeftOut, 5, "  row from", "answered 0 and 0");
-    shows(RowNotJoined, 5, "  row from", "answered");
-    shows(BoundForgotten, 5, "  row from", "answered");
+    all_show(&[
+        (RowCutShort, 4, "  row from", "answered"),
+        (SafeTooLow, 4, "  safe above", "answered"),
+        (LeftInForOut, 2, "  left of", "answered"),
+        (SumHoldsAtItsEnd, 6, "  ", "answered"),
+        (FadeWithoutItsLastUnit, 2, "  left of", "answered"),
+        (RowOfOneLeftOut, 5, "  row from", "answered 0 and 0"),
+        (RowNotJoined, 5, "  row from", "answered"),
+        (BoundForgotten, 5, "  row from", "answered"),
+    ]);
 }
 
 #[test]
 fn wrong_refusals() {
-    shows(FullBeforeOutOfRange, 2, "  lay: ", "answered refused 5 at 0, expected refused 2 at 0");
-    shows(PlaceOneOff, 1, "  garbled at", "answered refused 1 at");
+    all_show(&[
+        (FullBeforeOutOfRange, 2, "  lay: ", "answered refused 5 at 0, expected refused 2 at 0"),
+        (PlaceOneOff, 1, "  garbled at", "answered refused 1 at"),
+    ]);
 }
 
 #[test]
 fn words_that_changed() {
-    shows(WordAfterARefusal, 1, "  ", "word 50 is 1, expected 0");
-    shows(WordAfterAQuestion, 1, "  row from", "is 9, expected 0");
-    shows(WordBehind, 1, "  lay: ", "expected");
-    shows(SlotLeftByALift, 2, "  lift", "expected 0");
-    shows(OnesKeptAtOpening, 2, "  l", "in a fresh book with the same rules");
-    shows(RuleLeftByALift, 2, "  lift", "word 3 is 1, expected 0");
+    all_show(&[
+        (WordAfterARefusal, 1, "  ", "word 50 is 1, expected 0"),
+        (WordAfterAQuestion, 1, "  row from", "is 9, expected 0"),
+        (WordBehind, 1, "  lay: ", "expected"),
+        (SlotLeftByALift, 2, "  lift", "expected 0"),
+        (OnesKeptAtOpening, 2, "  l", "in a fresh book with the same rules"),
+        (RuleLeftByALift, 2, "  lift", "word 3 is 1, expected 0"),
+    ]);
 }
 
 #[test]
 fn room_for_answers() {
-    shows(ServedWithoutRoom, 2, "  l", ", with room for ");
-    shows(AnswerTooLong, 1, "  ", "byte 24 of the room for an answer is 0, expected 219");
+    all_show(&[
+        (ServedWithoutRoom, 2, "  l", ", with room for "),
+        (AnswerTooLong, 1, "  ", "byte 24 of the room for an answer is 0, expected 219"),
+    ]);
 }
 
 fn finds(flaw: Flaw, run: Runs, difference: &str) {
