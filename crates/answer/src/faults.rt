@@ -1,4 +1,4 @@
-// Why the program ends with status 1.
+//! Why the program ends with status 1.
 ghost use Rattle.std.specs.Prelude.{◌≡◌};
 ghost use Rattle.answer.specs.Transcript.{missing};
 
@@ -8,7 +8,7 @@ use thiserror::Error;
 
 #[derive(Debug, Drop, Error)]
 pub enum Fault {
-    // more than one word on the command line
+    /// more than one word on the command line
     #[error("usage: answer [FILE], one file of calls, or standard input")]
     Usage,
     #[error("command line: {0}")]
@@ -19,14 +19,14 @@ pub enum Fault {
     Input(io::Error),
     #[error("standard output: {0}")]
     Output(io::Error),
-    // a file that ends inside its head, and how many bytes it has
+    /// a file that ends inside its head, and how many bytes it has
     #[error("a head of 8 bytes is wanted, the file ends after {bytes}: {missing}", missing = missing_after(*.bytes))]
     Head { bytes: usize },
     #[error("out of memory")]
     Memory(#[from] AllocError),
 }
 
-// What a head lacks that ends after so many bytes.
+/// What a head lacks that ends after so many bytes.
 fn missing_after(bytes: usize) -> &'static str
     ensures { result.now ≡ missing bytes }
 {

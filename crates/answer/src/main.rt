@@ -1,4 +1,4 @@
-// Answers a file of calls: a line for each. The file is named by the first word, or else it is standard input.
+//! Answers a file of calls: a line for each. The file is named by the first word, or else it is standard input.
 #![tactic(auto)]
 
 mod faults;
@@ -18,11 +18,11 @@ A call is a byte for its kind (0 lay, 1 lift, 2 left, 3 row, 4 safe) and its num
 that is laid is a byte for its kind (0 take, 1 give, 2 take a sum, 3 give a sum, 4 fade) and three numbers.
 ";
 
-// What the command line asks.
+/// What the command line asks.
 #[derive(Drop)]
 enum Asked {
     Help,
-    // the calls of the file that is named, or else of standard input
+    /// the calls of the file that is named, or else of standard input
     Answers(Option<String>),
 }
 
@@ -44,7 +44,7 @@ fn read_input(rt: &HostRuntime) -> Result<Vec<u8>, Fault> {
     Ok(bytes)
 }
 
-// The bytes of the file that is named, or else of standard input.
+/// The bytes of the file that is named, or else of standard input.
 fn read_calls(rt: &HostRuntime, name: Option<String>) -> Result<Vec<u8>, Fault> {
     match name {
         None => read_input(rt),

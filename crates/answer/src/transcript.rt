@@ -1,4 +1,4 @@
-// The lines that answer a file of calls.
+//! The lines that answer a file of calls.
 ghost use Rattle.std.specs.Prelude.{◌≡◌, ◌<◌, ◌≤◌, ◌++◌, length, IfOk, None, Ok, string_bytes, MatchOption, OnOk};
 ghost use Rattle.session.specs.Memory.{limited};
 ghost use Rattle.answer.specs.Transcript.{lines_on, told_in, transcript as transcript_of};
@@ -9,10 +9,10 @@ use std::alloc::{AllocError, Global};
 use text::{Line, write_line};
 use wire::{Answer, Calls, Garbled, Head, read_call, read_head};
 
-// The memory that is lent is for so many rules.
+/// The memory that is lent is for so many rules.
 const RULES: u32 = 16;
 
-// A line for each call of what follows the head.
+/// A line for each call of what follows the head.
 #[tactic(auto, unfolding(crate::specs::Transcript::lines, session::specs::Memory::told_words))]
 fn answer_calls(words: &mut [u64], calls: &[u8], out: &mut String) -> Result<(), AllocError>
     ensures { OnOk result (string_bytes out.new ≡ string_bytes out.old ++ lines_on words.old calls.now) }
@@ -25,7 +25,7 @@ fn answer_calls(words: &mut [u64], calls: &[u8], out: &mut String) -> Result<(),
     Ok(())
 }
 
-// A refusal at opening is the only line. An opening is no call, so what was asked is shown as bytes that are none.
+/// A refusal at opening is the only line. An opening is no call, so what was asked is shown as bytes that are none.
 fn answer_all(
     words: &mut [u64],
     head: Head,
@@ -44,8 +44,8 @@ fn answer_all(
     }
 }
 
-// All lines that answer a file, or none where it ends inside its head. Memory is lent for 16 rules, so that a larger
-// limit is refused at opening.
+/// All lines that answer a file, or none where it ends inside its head. Memory is lent for 16 rules, so that a larger
+/// limit is refused at opening.
 #[tactic(auto, using(std::proofs::lemmas::Result::err_from_is_err_and))]
 pub fn answer_file(heap: Global, file: &[u8]) -> Result<Option<String>, AllocError>
     ensures short { length file.now < 8 → result ≡ Ok None }

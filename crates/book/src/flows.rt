@@ -1,4 +1,4 @@
-// What all rules together let in and out of a gross.
+//! What all rules together let in and out of a gross.
 ghost use Rattle.std.specs.Prelude.{◌≡◌, ◌<◌, ◌^◌};
 ghost use Rattle.raise.specs.Rules.{all_plus, all_minus};
 ghost use Rattle.raise.specs.Net.{net};
@@ -9,7 +9,7 @@ use crate::value::Book;
 use raise::ten_thousandths;
 
 impl Book {
-    // What comes in with the gross, and what goes out. Neither has more than 63 bits.
+    /// What comes in with the gross, and what goes out. Neither has more than 63 bits.
     pub fn flows_of(&self, gross: u32) -> Flows
         ensures inflow { result.inflow ≡ all_plus self.now.rules gross }
         ensures outflow { result.outflow ≡ all_minus self.now.rules gross }
@@ -26,7 +26,7 @@ impl Book {
         Flows { inflow, outflow }
     }
 
-    // What is left of a gross; it may be less than nothing.
+    /// What is left of a gross; it may be less than nothing.
     pub fn net_of(&self, gross: u32) -> i64
         ensures { result ≡ net self.now.rules gross }
     {

@@ -1,4 +1,4 @@
-// The layout of a book in lent words: a front of four words, a slot for each rule up to the limit, and scratch.
+//! The layout of a book in lent words: a front of four words, a slot for each rule up to the limit, and scratch.
 ghost use Rattle.std.specs.Prelude.{◌≡◌, ◌+◌, ◌*◌, ◌≤◌, ◌<◌, [], ◌++◌, length, drop, Some, None, slice_index};
 ghost use Rattle.raise.specs.Rules.{pick};
 ghost use Rattle.book.specs.Held.{asked, width, scratch_from, image, rules_of, book_of, head_fine, ReadsBack, HoldsGood, ImagesDiffer};
@@ -11,13 +11,13 @@ use arrayvec::ArrayVec;
 use std::ops::Range;
 use wire::Rule;
 
-// Says that an opened book of this format is here: "book" in ASCII.
+/// Says that an opened book of this format is here: "book" in ASCII.
 const TAG: u64 = 0x626f_6f6b;
 
-// How many words the front has.
+/// How many words the front has.
 const FRONT: usize = 4;
 
-// The front of the words.
+/// The front of the words.
 #[derive(Clone, Copy)]
 struct Front {
     limit: u32,
@@ -25,7 +25,7 @@ struct Front {
     count: usize,
 }
 
-// How many words a book with a limit of so many rules asks for: at most 64 a rule and 256 more.
+/// How many words a book with a limit of so many rules asks for: at most 64 a rule and 256 more.
 pub fn words_asked(rules: u32) -> usize
     ensures value { result ≡ asked rules }
     ensures bound { result ≤ 64 * rules + 256 }
@@ -34,7 +34,7 @@ pub fn words_asked(rules: u32) -> usize
     32 * rules as usize + 64
 }
 
-// The front of the words, if it is in range and they are as many as it asks for.
+/// The front of the words, if it is in range and they are as many as it asks for.
 fn read_front(words: &[u64]) -> Option<Front>
     ensures { result ≡ pick (head_fine words.now) (Some (record { limit = slice_index words.now 1; bound = slice_index words.now 2; count = slice_index words.now 3 })) None }
 {
@@ -52,7 +52,7 @@ fn read_front(words: &[u64]) -> Option<Front>
     })
 }
 
-// The rules of the first slots, if each holds one.
+/// The rules of the first slots, if each holds one.
 fn read_rules(words: &[u64], count: usize) -> Option<ArrayVec<Rule, MOST_RULES>>
     requires few { count ≤ 64 }
     requires long { 4 + width * count ≤ length words.now }
@@ -66,7 +66,7 @@ fn read_rules(words: &[u64], count: usize) -> Option<ArrayVec<Rule, MOST_RULES>>
     Some(rules)
 }
 
-// The book that the words hold, apart from `read_book`, which would owe its theorems anew at each of these three returns.
+/// The book that the words hold, apart from `read_book`, which would owe its theorems anew at each of these three returns.
 fn read_whole(words: &[u64]) -> Option<Book>
     ensures { ReadIf words.now result }
 {
@@ -79,8 +79,8 @@ fn read_whole(words: &[u64]) -> Option<Book>
     })
 }
 
-// The book that the words hold, if they hold one.
-// What was written is read back, what is read is within limits, and different books are different words.
+/// The book that the words hold, if they hold one.
+/// What was written is read back, what is read is within limits, and different books are different words.
 pub fn read_book(words: &[u64]) -> Option<Book>
     ensures book { result ≡ book_of words.now }
     ensures opened { ReadIf words.now result }
@@ -91,7 +91,7 @@ pub fn read_book(words: &[u64]) -> Option<Book>
     read_whole(words)
 }
 
-// The book's image, in the first words; the words beyond stay. Only here is a book written to words.
+/// The book's image, in the first words; the words beyond stay. Only here is a book written to words.
 pub fn write_book(words: &mut [u64], book: &Book)
     requires { asked book.now.limit ≤ length words.old }
     ensures { words.new ≡ image book.now ++ drop (asked book.now.limit) words.old }
@@ -111,8 +111,8 @@ pub fn write_book(words: &mut [u64], book: &Book)
     words[FRONT + SLOT * rules.len()..words_asked(book.limit)].fill(0);
 }
 
-// A book without rules, in the first words; the words beyond stay. Its limits come as the two numbers of an opening, for which
-// a struct of limits would ask more.
+/// A book without rules, in the first words; the words beyond stay. Its limits come as the two numbers of an opening, for which
+/// a struct of limits would ask more.
 pub fn open_empty(words: &mut [u64], limit: u32, bound: u32)
     requires few { limit ≤ 64 }
     requires low { bound ≤ 1000000000 }
@@ -123,8 +123,8 @@ pub fn open_empty(words: &mut [u64], limit: u32, bound: u32)
 }
 
 impl Book {
-    // Where the scratch lies in the words that hold the book: behind the slots, up to the last word that is asked for. What is
-    // written there is cleared as soon as the book is written again.
+    /// Where the scratch lies in the words that hold the book: behind the slots, up to the last word that is asked for. What is
+    /// written there is cleared as soon as the book is written again.
     pub fn scratch(&self) -> Range<usize>
         ensures from { result.start ≡ scratch_from self.now.limit }
         ensures to { result.end ≡ asked self.now.limit }

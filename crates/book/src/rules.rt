@@ -1,4 +1,4 @@
-// One rule: is it in range, and what it lets in and out.
+//! One rule: is it in range, and what it lets in and out.
 ghost use Rattle.std.specs.Prelude.{◌≡◌, ◌-◌, ◌*◌, ◌&&◌, nat_le, nat_lt};
 ghost use Rattle.raise.specs.Rules.{pick, lesser, plus, minus};
 ghost use Rattle.raise.specs.Calls.{fine};
@@ -13,14 +13,14 @@ const MOST_RATE: u32 = 20_000;
 
 const MOST_SUM: u32 = 100_000_000;
 
-// What comes in and what goes out, in ten-thousandths of a unit.
+/// What comes in and what goes out, in ten-thousandths of a unit.
 #[derive(Clone, Copy, Debug, PartialEq, Eq)]
 pub struct Flows {
     pub inflow: u64,
     pub outflow: u64,
 }
 
-// Borders in order and at most 1,000,000,000, a rate of at most 20,000, a sum of at most 100,000,000.
+/// Borders in order and at most 1,000,000,000, a rate of at most 20,000, a sum of at most 100,000,000.
 #[tactic(auto, unfolding(raise::specs::Calls::fine))]
 pub fn is_fine(rule: Rule) -> bool
     ensures { result ≡ fine (meant rule) }
@@ -38,14 +38,14 @@ pub fn is_fine(rule: Rule) -> bool
     }
 }
 
-// A rate of what is earned above `from`, up to `to`.
+/// A rate of what is earned above `from`, up to `to`.
 fn by_rate(from: u32, to: u32, rate: u32, gross: u32) -> u64
     ensures { result ≡ rate * (lesser gross to - from) }
 {
     u64::from(rate) * u64::from(gross.min(to).saturating_sub(from))
 }
 
-// A sum where the gross is `from` or more and below `to`.
+/// A sum where the gross is `from` or more and below `to`.
 fn by_sum(from: u32, to: u32, sum: u32, gross: u32) -> u64
     ensures { result ≡ pick (nat_le from gross && nat_lt gross to) (10000 * sum) 0 }
 {
@@ -56,7 +56,7 @@ fn by_sum(from: u32, to: u32, sum: u32, gross: u32) -> u64
     }
 }
 
-// A sum, less a rate for each unit above `from`, and nothing where that would be below nothing.
+/// A sum, less a rate for each unit above `from`, and nothing where that would be below nothing.
 fn by_fade(from: u32, rate: u32, sum: u32, gross: u32) -> u64
     ensures { result ≡ 10000 * sum - rate * (gross - from) }
 {
@@ -75,7 +75,7 @@ fn takes(outflow: u64) -> Flows
     Flows { inflow: 0, outflow }
 }
 
-// What a rule lets in and out of a gross.
+/// What a rule lets in and out of a gross.
 #[tactic(auto, unfolding(raise::specs::Rules::plus, raise::specs::Rules::minus))]
 pub(crate) fn flows_by(rule: Rule, gross: u32) -> Flows
     ensures inflow { result.inflow ≡ plus (meant rule) gross }

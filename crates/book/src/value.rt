@@ -1,4 +1,4 @@
-// A book as a value within limits: its rules, laid and lifted.
+//! A book as a value within limits: its rules, laid and lifted.
 ghost use Rattle.std.specs.Prelude.{◌≡◌, ◌≤◌, true, [], length, Some, None};
 ghost use Rattle.std.specs.List.{slice_get};
 ghost use Rattle.raise.specs.Rules.{pick};
@@ -11,12 +11,12 @@ use arrayvec::ArrayVec;
 use std::marker::Model;
 use wire::Rule;
 
-// The most rules that any book may hold.
+/// The most rules that any book may hold.
 pub(crate) const MOST_RULES: usize = 64;
 
-// How many rules it may hold, up to what earning it is asked, and the rules, in the order in which they were laid. Every
-// book is within limits: at most 64 rules, a bound of at most 1,000,000,000, and every rule in range. The rules lie in the
-// value itself, since nothing here may ask the heap.
+/// How many rules it may hold, up to what earning it is asked, and the rules, in the order in which they were laid. Every
+/// book is within limits: at most 64 rules, a bound of at most 1,000,000,000, and every rule in range. The rules lie in the
+/// value itself, since nothing here may ask the heap.
 #[derive(Clone, Debug, Drop)]
 pub struct Book {
     pub(crate) limit: u32,
@@ -38,7 +38,7 @@ impl Model for Book {
 }
 
 impl Book {
-    // A book without rules.
+    /// A book without rules.
     #[tactic(auto, unfolding(crate::specs::Held::all_fine))]
     pub fn new(limit: u32, bound: u32) -> Book
         requires few { limit ≤ 64 }
@@ -52,7 +52,7 @@ impl Book {
         }
     }
 
-    // How many rules it may hold.
+    /// How many rules it may hold.
     pub fn limit(&self) -> u32
         ensures value { result ≡ self.now.limit }
         ensures few { result ≤ 64 }
@@ -60,7 +60,7 @@ impl Book {
         self.limit
     }
 
-    // Up to what earning it is asked.
+    /// Up to what earning it is asked.
     pub fn bound(&self) -> u32
         ensures value { result ≡ self.now.bound }
         ensures low { result ≤ 1000000000 }
@@ -68,7 +68,7 @@ impl Book {
         self.bound
     }
 
-    // The rules, in the order in which they were laid.
+    /// The rules, in the order in which they were laid.
     pub fn rules(&self) -> &[Rule]
         ensures rules { all_meant result.now ≡ self.now.rules }
         ensures few { length result.now ≤ 64 }
@@ -77,14 +77,14 @@ impl Book {
         self.rules.as_slice()
     }
 
-    // The i-th rule, counted from 0, if there is one.
+    /// The i-th rule, counted from 0, if there is one.
     pub fn rule(&self, i: u32) -> Option<Rule>
         ensures { meant_if result ≡ slice_get self.now.rules i }
     {
         self.rules().get(i as usize).copied()
     }
 
-    // One rule more, as the last: its number, if there is room for it.
+    /// One rule more, as the last: its number, if there is room for it.
     #[tactic(auto, using(std::proofs::lemmas::List::map_push), unfolding(raise::specs::Calls::changed))]
     pub fn lay(&mut self, rule: Rule) -> Option<u32>
         requires { fine (meant rule) ≡ true }
@@ -99,7 +99,7 @@ impl Book {
         Some(number)
     }
 
-    // The i-th rule goes, and those after it move down one: its number, if there is such a rule.
+    /// The i-th rule goes, and those after it move down one: its number, if there is such a rule.
     pub fn lift(&mut self, i: u32) -> Option<u32>
         ensures number { result ≡ pick (has_rule self.old i) (Some i) None }
         ensures book { self.new ≡ pick (has_rule self.old i) (with_rules self.old (changed self.old.rules (lifts i))) self.old }

@@ -1,4 +1,4 @@
-// Tests of the book, as tables: which rules are in range, and rules of every kind in their slots.
+//! Tests of the book, as tables: which rules are in range, and rules of every kind in their slots.
 #![tactic(auto)]
 
 #[cfg(test)]

@@ -1,4 +1,4 @@
-// Which rules are in range, each limit at its edge.
+//! Which rules are in range, each limit at its edge.
 use book::is_fine;
 use std::process::Abort;
 use wire::RuleKind;

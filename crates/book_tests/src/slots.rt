@@ -1,4 +1,4 @@
-// Rules of every kind, laid into their slots, read from them, and lifted.
+//! Rules of every kind, laid into their slots, read from them, and lifted.
 use book::{Book, is_fine, open_empty, read_book, words_asked, write_book};
 use std::process::Abort;
 use std::test::Fail;
@@ -84,7 +84,7 @@ fn every_kind(rt: HostRuntime) -> Result<(), Fail> {
     Ok(())
 }
 
-// As many rules as a book may hold.
+/// As many rules as a book may hold.
 #[test]
 fn as_many_as_fit(rt: HostRuntime) -> Result<(), Fail> {
     let mut words = [9u64; 2112];
@@ -100,7 +100,7 @@ fn as_many_as_fit(rt: HostRuntime) -> Result<(), Fail> {
     holds(&rt, &words, 63, RuleKind::Fade)
 }
 
-// Where scratch lies in the words of a book: behind as many slots as there may be rules.
+/// Where scratch lies in the words of a book: behind as many slots as there may be rules.
 #[test]
 fn scratch(rt: HostRuntime) {
     assert_eq!(rt; Book::new(0, 300).scratch(), 4..64);

@@ -1,4 +1,4 @@
-// Why the program ends with status 1, apart from a line or an earning that doesn't fit.
+//! Why the program ends with status 1, apart from a line or an earning that doesn't fit.
 use std::alloc::AllocError;
 use std::io;
 use thiserror::Error;
@@ -7,7 +7,7 @@ use thiserror::Error;
 pub enum Fault {
     #[error("command line: {0}")]
     Words(io::Error),
-    // a first word that begins with '-' and is none of those that the usage names
+    /// a first word that begins with '-' and is none of those that the usage names
     #[error("{word} is no option; --help shows the usage")]
     Option { word: String },
     #[error("{name}: {why}")]

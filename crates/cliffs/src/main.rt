@@ -1,5 +1,5 @@
-// Reads a family's rules as text and prints the rows of those who lose by earning more; then, for each earning that is named, what
-// more would do. The text is all of it the result of `report`; this program only reads the file and prints it.
+//! Reads a family's rules as text and prints the rows of those who lose by earning more; then, for each earning that is named, what
+//! more would do. The text is all of it the result of `report`; this program only reads the file and prints it.
 #![tactic(auto)]
 
 mod faults;
@@ -24,14 +24,14 @@ from A to B, from A on, below B:
 Where a line or an EARNING doesn't fit, standard error says why, and the status is 1.
 ";
 
-// Where the rules come from.
+/// Where the rules come from.
 #[derive(Drop)]
 enum Source {
     Input,
     File(String),
 }
 
-// What the command line asks.
+/// What the command line asks.
 #[derive(Drop)]
 enum Asked {
     Help,

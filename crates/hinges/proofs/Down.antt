@@ -8,10 +8,10 @@ use Rattle.std.proofs.lemmas.Bool.{cases_lt, le-leb, lt-leb}
 use Rattle.raise.proofs.Straight.{plus_times}
 use Rattle.segments.specs.declared.lines.Segment.{Segment}
 use Rattle.hinges.specs.declared.hinge.Hinge.{Hinge}
-use Rattle.hinges.specs.declared.left.Left.{Left}
+use Rattle.hinges.specs.declared.sweep.Sweep.{Sweep}
 use Rattle.hinges.specs.Below.{nearer_below, greatest_below}
 use Rattle.hinges.specs.Hinges.{bends, turns, ats, Sized, Ordered, sum_of, segment_by}
-use Rattle.hinges.specs.Left.{last_at, with_hinge, without_hinge, line_of, one_back, Reached, LeftAt, UndoneAt, Fewer, Room}
+use Rattle.hinges.specs.Sweep.{last_at, with_hinge, without_hinge, line_of, one_back, Reached, SweepAt, UndoneAt, Fewer, Room}
 use Rattle.hinges.proofs.Adding.{bends_joined, turns_joined, below_joined, bends_more, turns_more, room}
 use Rattle.hinges.proofs.Shares.{times_more}
 
@@ -66,7 +66,7 @@ back (h ∷ hs) y g le a =
     let i = back hs y g le a.1 in
     (rw (t, u, n) (omega (arith, ints, times_more h.pace (y - h.at) (g - y), plus_times h.pace (turns hs y) (g - y), i.0)), rw (t, u) (omega (arith, ints, i.1)))
 
-module _ {hs : List Hinge} {g e : ℕ} {l : Left} (r : Reached hs g e l) where
+module _ {hs : List Hinge} {g e : ℕ} {l : Sweep} (r : Reached hs g e l) where
   pub room_at : Sized hs → g ≤ 1000000000 → Room l
   room_at z low = rw (r.net, r.slope) (room hs l.many g z low r.many)
 
@@ -82,7 +82,7 @@ module _ {hs : List Hinge} {g e : ℕ} {l : Left} (r : Reached hs g e l) where
 
 -- ---- the segment
 
-module _ {hs : List Hinge} (o : Ordered hs) {g : ℕ} {l : Left} (r : LeftAt hs g l) where
+module _ {hs : List Hinge} (o : Ordered hs) {g : ℕ} {l : Sweep} (r : SweepAt hs g l) where
   split : hs ≡ take l.many hs ++ drop l.many hs
   split = sym (take-append-drop l.many hs)
 
@@ -138,7 +138,7 @@ module _ {hs : List Hinge} (o : Ordered hs) {g : ℕ} {l : Left} (r : LeftAt hs 
 
 -- ---- hinges undone
 
-module _ {hs : List Hinge} {g : ℕ} {l : Left} (r : UndoneAt hs g l) where
+module _ {hs : List Hinge} {g : ℕ} {l : Sweep} (r : UndoneAt hs g l) where
   pub fewer : (i : ℕ) (d : Hinge) → suc i ≡ l.many → (g ≤ (get_or hs i d).at) → UndoneAt hs g (without_hinge l (get_or hs i d)) × (i < l.many)
   fewer i d q not =
       let h = get_or hs i d in
@@ -166,7 +166,7 @@ module _ {hs : List Hinge} {g : ℕ} {l : Left} (r : UndoneAt hs g l) where
   pub all_less : Ordered hs → (i : ℕ) (d : Hinge) → suc i ≡ l.many → (get_or hs i d).at < g → Fewer hs g l None
   all_less o i d q less j e lt = omega (arith, in_order hs o j i e d (omega (arith, lt, q)) (omega (arith, q, r.many)), less)
 
-  pub below : 0 < g → Fewer hs g l None → LeftAt hs (g - 1) (one_back l)
+  pub below : 0 < g → Fewer hs g l None → SweepAt hs (g - 1) (one_back l)
   unfolding one
   below some none =
       let y = g - 1 in
@@ -185,7 +185,7 @@ module _ {hs : List Hinge} {g : ℕ} {l : Left} (r : UndoneAt hs g l) where
 -- ---- from the first on
 
 -- the first i are all up to g
-pub record Passed (hs : List Hinge) (g i : ℕ) (l : Left) : Type 0 where
+pub record Passed (hs : List Hinge) (g i : ℕ) (l : Sweep) : Type 0 where
   pub many : l.many ≡ i
   pub low : (j : ℕ) (d : Hinge) → j < i → (get_or hs j d).at ≤ g
   pub net : l.net ≡ bends (take i hs) g
@@ -195,7 +195,7 @@ pub passed_none : (hs : List Hinge) (g : ℕ) → Passed hs g 0 (record { many =
 unfolding bends turns
 passed_none hs g = record { many = refl; low = λ j d lt. absurd (omega (arith, lt)); net = refl; slope = refl }
 
-module _ {hs : List Hinge} {g i : ℕ} {l : Left} (p : Passed hs g i l) where
+module _ {hs : List Hinge} {g i : ℕ} {l : Sweep} (p : Passed hs g i l) where
   pub passed_one : (d : Hinge) → i < length hs → (get_or hs i d).at ≤ g → Passed hs g (i + 1) (with_hinge l (get_or hs i d) g)
   passed_one d lt le =
       let h = get_or hs i d in
@@ -214,8 +214,8 @@ module _ {hs : List Hinge} {g i : ℕ} {l : Left} (p : Passed hs g i l) where
   passed_room z low le = rw (p.net, p.slope) (room hs i g z low le)
 
   -- the others are above it
-  pub left_at : ((j : ℕ) (d : Hinge) → i ≤ j → j < length hs → suc g ≤ (get_or hs j d).at) → i ≤ length hs → LeftAt hs g l
-  left_at high le = record {
+  pub sweep_at : ((j : ℕ) (d : Hinge) → i ≤ j → j < length hs → suc g ≤ (get_or hs j d).at) → i ≤ length hs → SweepAt hs g l
+  sweep_at high le = record {
     many = omega (arith, p.many, le);
     low = λ j d lt. p.low j d (omega (arith, lt, p.many));
     high = λ j d lo hi. high j d (omega (arith, lo, p.many)) hi;
@@ -223,8 +223,8 @@ module _ {hs : List Hinge} {g i : ℕ} {l : Left} (p : Passed hs g i l) where
     slope = p.slope ∙ ap (λ (n : ℕ). turns (take n hs) g) (sym p.many);
   }
 
-  pub stops : Ordered hs → (d : Hinge) → i < length hs → g < (get_or hs i d).at → LeftAt hs g l
-  stops o d lt above = left_at (λ j e lo hi. omega (arith, in_order hs o i j d e lo hi, above)) (omega (arith, lt))
+  pub stops : Ordered hs → (d : Hinge) → i < length hs → g < (get_or hs i d).at → SweepAt hs g l
+  stops o d lt above = sweep_at (λ j e lo hi. omega (arith, in_order hs o i j d e lo hi, above)) (omega (arith, lt))
 
-  pub ends : i ≡ length hs → LeftAt hs g l
-  ends e = left_at (λ j d lo hi. absurd (omega (arith, lo, hi, e))) (omega (arith, e))
+  pub ends : i ≡ length hs → SweepAt hs g l
+  ends e = sweep_at (λ j d lo hi. absurd (omega (arith, lo, hi, e))) (omega (arith, e))

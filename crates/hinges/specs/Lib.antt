@@ -1,3 +1,3 @@
 pub mod Below
 pub mod Hinges
-pub mod Left
+pub mod Sweep

@@ -1,9 +1,9 @@
-// One hinge, and what it adds to net and to the slope.
+//! One hinge, and what it adds to net and to the slope.
 ghost use Rattle.std.specs.Prelude.{◌≡◌, ◌≤◌};
 ghost use Rattle.raise.specs.Net.{on_line};
 ghost use Rattle.hinges.specs.Hinges.{SizedHinge};
 
-// From this gross on net is higher by the jump, and by the pace for each unit beyond.
+/// From this gross on net is higher by the jump, and by the pace for each unit beyond.
 #[derive(Clone, Copy, Debug, Default, PartialEq, Eq)]
 pub struct Hinge {
     pub at: u32,
@@ -12,7 +12,7 @@ pub struct Hinge {
 }
 
 impl Hinge {
-    // What it adds to net at a gross that it is not above.
+    /// What it adds to net at a gross that it is not above.
     pub(crate) fn line_at(self, gross: u32) -> i64
         requires sized { SizedHinge self }
         requires order { self.at ≤ gross }

@@ -1,4 +1,4 @@
-// The hinges of each rule, and of a book.
+//! The hinges of each rule, and of a book.
 ghost use Rattle.std.specs.Prelude.{◌≡◌, ◌+◌, ◌*◌, ◌≤◌, ◌++◌, pos, IsPermutation};
 ghost use Rattle.raise.specs.Rules.{fades};
 ghost use Rattle.arrayvec.specs.ArrayVec.{array_vec_len};
@@ -12,12 +12,12 @@ use book::Book;
 use raise::ten_thousandths;
 use wire::Rule;
 
-// At most three of each of 64 rules, and that of the unit itself.
+/// At most three of each of 64 rules, and that of the unit itself.
 pub const MOST_HINGES: usize = 193;
 
 pub type Hinges = ArrayVec<Hinge, MOST_HINGES>;
 
-// What begins at a hinge, and ends at `to`.
+/// What begins at a hinge, and ends at `to`.
 fn push_stretch(hinges: &mut Hinges, first: Hinge, to: u32)
     requires room { array_vec_len hinges.old + 2 ≤ 193 }
     requires mild { Mild first }
@@ -31,7 +31,7 @@ fn push_stretch(hinges: &mut Hinges, first: Hinge, to: u32)
     });
 }
 
-// Where a fade is used up, if it ever is; past 32 bits at the last number that they have, far above every bound.
+/// Where a fade is used up, if it ever is; past 32 bits at the last number that they have, far above every bound.
 fn push_faded(hinges: &mut Hinges, from: u32, rate: u32, sum: u32)
     requires room { array_vec_len hinges.old + 1 ≤ 193 }
     ensures { hinges.new.items ≡ hinges.old.items ++ faded from rate (10000 * sum) }
@@ -78,7 +78,7 @@ fn jumping(at: u32, jump: i64) -> Hinge
     Hinge { at, jump, pace: 0 }
 }
 
-// Those of a rule.
+/// Those of a rule.
 fn push_rule(hinges: &mut Hinges, rule: Rule)
     requires { array_vec_len hinges.old + 3 ≤ 193 }
     ensures { hinges.new.items ≡ hinges.old.items ++ hinges_of (meant rule) }
@@ -98,7 +98,7 @@ fn push_rule(hinges: &mut Hinges, rule: Rule)
     }
 }
 
-// In the order of where they are.
+/// In the order of where they are.
 fn sort(hinges: &mut [Hinge])
     ensures same { IsPermutation hinges.old hinges.new }
     ensures ordered { Ordered hinges.new }
@@ -106,7 +106,7 @@ fn sort(hinges: &mut [Hinge])
     hinges.sort_unstable_by_key(|hinge| hinge.at);
 }
 
-// Those of a book, in the order of where they are. Inlined, since all of them would be copied where it returns.
+/// Those of a book, in the order of where they are. Inlined, since all of them would be copied where it returns.
 #[tactic(auto, unfolding(crate::specs::Hinges::of_rules))]
 #[inline(always)]
 pub fn hinges_of(book: &Book) -> Hinges

@@ -1,5 +1,5 @@
-// The next breakpoint below a gross: there the segment begins that ends with the one before it.
-use crate::left::*;
+//! The next breakpoint below a gross: there the segment begins that ends with the one before it.
+use crate::sweep::*;
 use samples::{MOST, book_with};
 use std::process::Abort;
 use std::test::Fail;
@@ -17,7 +17,7 @@ fn below(rt: &impl Abort, rules: &[Rule], expected: &[(u32, u32)]) -> Result<(),
     Ok(())
 }
 
-// 0 is a breakpoint of any rules, and of no rules. Where the bound is makes no difference.
+/// 0 is a breakpoint of any rules, and of no rules. Where the bound is makes no difference.
 #[test]
 fn down_to_0(rt: HostRuntime) -> Result<(), Fail> {
     below(&rt, &[], &[(1, 0), (MOST, 0), (MOST + 1, 0)])?;
@@ -29,7 +29,7 @@ fn down_to_0(rt: HostRuntime) -> Result<(), Fail> {
     below(&rt, &rules, &[(8, 7), (9, 7), (10, 9), (MOST + 1, 9)])
 }
 
-// A rule of each kind but fades, the later with lower breakpoints: each begins and ends by itself.
+/// A rule of each kind but fades, the later with lower breakpoints: each begins and ends by itself.
 #[test]
 fn of_rates_and_sums(rt: HostRuntime) -> Result<(), Fail> {
     let rules = [
@@ -46,8 +46,8 @@ fn of_rates_and_sums(rt: HostRuntime) -> Result<(), Fail> {
     )
 }
 
-// A fade's second breakpoint is one past its last unit, 10; that of one with a rate of 1 is far beyond all grosses, and a rate of 0
-// has none.
+/// A fade's second breakpoint is one past its last unit, 10; that of one with a rate of 1 is far beyond all grosses, and a rate of 0
+/// has none.
 #[test]
 fn of_fades(rt: HostRuntime) -> Result<(), Fail> {
     let fade = [RuleKind::Fade.rule([4, 10_000, 6])];
@@ -58,7 +58,7 @@ fn of_fades(rt: HostRuntime) -> Result<(), Fail> {
     below(&rt, &kept, &[(MOST + 1, MOST), (MOST, 0)])
 }
 
-// The greatest gross that there can be is a breakpoint, or none is between it and another.
+/// The greatest gross that there can be is a breakpoint, or none is between it and another.
 #[test]
 fn at_the_top(rt: HostRuntime) -> Result<(), Fail> {
     let rules = [RuleKind::Take.rule([3, MOST, 0])];

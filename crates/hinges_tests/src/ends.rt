@@ -1,5 +1,5 @@
-// The segment that ends with a gross, beside the one that goes on from where it begins up to the next breakpoint.
-use crate::left::*;
+//! The segment that ends with a gross, beside the one that goes on from where it begins up to the next breakpoint.
+use crate::sweep::*;
 use book::Book;
 use samples::{MOST, book_with, family, rules_of_all_kinds};
 use segments::{Segment, next_breakpoint, segment_from};
@@ -7,8 +7,8 @@ use std::process::Abort;
 use std::test::Fail;
 use wire::RuleKind;
 
-// At each of so many grosses from one on, up to the bound: it ends with the gross, and apart from that they are one. So they are
-// the same where a breakpoint comes next, and at the bound.
+/// At each of so many grosses from one on, up to the bound: it ends with the gross, and apart from that they are one. So they are
+/// the same where a breakpoint comes next, and at the bound.
 pub(crate) fn beside(rt: &impl Abort, book: &Book, from: u32, count: u32) -> Result<(), Fail> {
     for gross in from..from.saturating_add(count) {
         if gross > book.bound() {
@@ -25,7 +25,7 @@ pub(crate) fn beside(rt: &impl Abort, book: &Book, from: u32, count: u32) -> Res
     Ok(())
 }
 
-// Some of the rules, one behind the other, up to the bound.
+/// Some of the rules, one behind the other, up to the bound.
 #[test]
 fn runs_of_rules(rt: HostRuntime) -> Result<(), Fail> {
     let rules = rules_of_all_kinds();
@@ -38,7 +38,7 @@ fn runs_of_rules(rt: HostRuntime) -> Result<(), Fail> {
     Ok(())
 }
 
-// Breakpoints lie at, before and beyond each of some bounds.
+/// Breakpoints lie at, before and beyond each of some bounds.
 #[test]
 fn up_to_each_bound(rt: HostRuntime) -> Result<(), Fail> {
     for bound in 0..22 {
@@ -54,7 +54,7 @@ fn of_a_family(rt: HostRuntime) -> Result<(), Fail> {
     beside(&rt, &book, 0, 5_001)
 }
 
-// 0, 5 and 10 are breakpoints of several rules each; 11 is past the bound.
+/// 0, 5 and 10 are breakpoints of several rules each; 11 is past the bound.
 #[test]
 fn together(rt: HostRuntime) -> Result<(), Fail> {
     let rules = [

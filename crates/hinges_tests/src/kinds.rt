@@ -1,4 +1,4 @@
-// The hinges of a rule of each kind, and of books.
+//! The hinges of a rule of each kind, and of books.
 use hinges::{Hinge, hinges_of};
 use samples::{MOST, book_with, family};
 use std::process::Abort;
@@ -9,7 +9,7 @@ fn hinge(at: u32, jump: i64, pace: i64) -> Hinge {
     Hinge { at, jump, pace }
 }
 
-// That of the unit itself.
+/// That of the unit itself.
 const UNIT: Hinge = Hinge {
     at: 0,
     jump: 0,
@@ -20,7 +20,7 @@ fn times(hinges: &[Hinge], hinge: Hinge) -> usize {
     hinges.iter().filter(|other| **other == hinge).count()
 }
 
-// These are the hinges of a book with these rules, in the order of where they are; those at one gross come in any order.
+/// These are the hinges of a book with these rules, in the order of where they are; those at one gross come in any order.
 fn have(rt: &impl Abort, rules: &[Rule], expected: &[Hinge]) -> Result<(), Fail> {
     let book = book_with(20, rules)?;
     let in_order = hinges_of(&book);
@@ -38,7 +38,7 @@ fn no_rules(rt: HostRuntime) -> Result<(), Fail> {
     have(&rt, &[], &[UNIT])
 }
 
-// What a rate or a sum does ends at its second border, wherever the bound is.
+/// What a rate or a sum does ends at its second border, wherever the bound is.
 #[test]
 fn rates_and_sums(rt: HostRuntime) -> Result<(), Fail> {
     let cases = [
@@ -65,7 +65,7 @@ fn rates_and_sums(rt: HostRuntime) -> Result<(), Fail> {
     Ok(())
 }
 
-// A fade is used up within a unit, of which 5,000 of 9,000 were left; on a whole step; before its first.
+/// A fade is used up within a unit, of which 5,000 of 9,000 were left; on a whole step; before its first.
 #[test]
 fn fades(rt: HostRuntime) -> Result<(), Fail> {
     let cases = [
@@ -98,7 +98,7 @@ fn fades(rt: HostRuntime) -> Result<(), Fail> {
     Ok(())
 }
 
-// It is never used up at a rate of 0; at a low one the hinge is at the last gross of 32 bits, from where that is its place.
+/// It is never used up at a rate of 0; at a low one the hinge is at the last gross of 32 bits, from where that is its place.
 #[test]
 fn fades_that_last(rt: HostRuntime) -> Result<(), Fail> {
     let never = [UNIT, hinge(0, 10_000, 0), hinge(10, 0, 0)];
@@ -121,7 +121,7 @@ fn fades_that_last(rt: HostRuntime) -> Result<(), Fail> {
     Ok(())
 }
 
-// Those of all rules, also where some are at one gross.
+/// Those of all rules, also where some are at one gross.
 #[test]
 fn of_a_family(rt: HostRuntime) -> Result<(), Fail> {
     let expected = [
@@ -139,7 +139,7 @@ fn of_a_family(rt: HostRuntime) -> Result<(), Fail> {
     have(&rt, &family(), &expected)
 }
 
-// The same rule twice, and one whose hinges end what another begins.
+/// The same rule twice, and one whose hinges end what another begins.
 #[test]
 fn alike(rt: HostRuntime) -> Result<(), Fail> {
     let rules = [

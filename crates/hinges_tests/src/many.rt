@@ -1,8 +1,8 @@
-// As many rules as a book can hold, up to the greatest bound.
+//! As many rules as a book can hold, up to the greatest bound.
 ghost use Rattle.std.specs.Prelude.{◌<◌};
 
 use crate::ends::*;
-use crate::left::*;
+use crate::sweep::*;
 use crate::walk::*;
 use book::Book;
 use hinges::{MOST_HINGES, hinges_of};
@@ -12,7 +12,7 @@ use std::process::Abort;
 use std::test::Fail;
 use wire::{Rule, RuleKind};
 
-// All the way down; and at, before and after each breakpoint and the bound.
+/// All the way down; and at, before and after each breakpoint and the bound.
 fn around_each(rt: &impl Abort, book: &Book) -> Result<(), Fail> {
     down(rt, book)?;
     let mut breakpoint = 0;
@@ -25,7 +25,7 @@ fn around_each(rt: &impl Abort, book: &Book) -> Result<(), Fail> {
     Ok(())
 }
 
-// The i-th of rules of all kinds, some of which hold at once; fades end in the second half, or beyond the bound.
+/// The i-th of rules of all kinds, some of which hold at once; fades end in the second half, or beyond the bound.
 fn ith(i: u32) -> Rule
     requires { i < 64 }
 {
@@ -50,7 +50,7 @@ fn of_all_kinds(rt: HostRuntime) -> Result<(), Fail> {
     around_each(&rt, &book)
 }
 
-// All at once, so that there are as many hinges as there can be.
+/// All at once, so that there are as many hinges as there can be.
 #[test]
 fn fades(rt: HostRuntime) -> Result<(), Fail> {
     let mut rules = [RuleKind::Fade.rule([0, 20_000, 0]); 64];
@@ -62,7 +62,7 @@ fn fades(rt: HostRuntime) -> Result<(), Fail> {
     around_each(&rt, &book)
 }
 
-// All hold at once and take most, and give most: the least and the greatest numbers that there can be.
+/// All hold at once and take most, and give most: the least and the greatest numbers that there can be.
 #[test]
 fn most(rt: HostRuntime) -> Result<(), Fail> {
     for (kind, net, slope) in [

@@ -1,24 +1,24 @@
-// The way down a book along its hinges, beside the segments that go on from where each begins.
+//! The way down a book along its hinges, beside the segments that go on from where each begins.
 ghost use Rattle.std.specs.Prelude.{◌≡◌, ℕ, ◌<◌, ◌≤◌};
 ghost use Rattle.hinges.specs.Hinges.{Sized, Ordered, segment_by, sum_of};
-ghost use Rattle.hinges.specs.Left.{LeftAt};
+ghost use Rattle.hinges.specs.Sweep.{SweepAt};
 
 use book::Book;
-use hinges::{Hinge, Left, hinges_of};
+use hinges::{Hinge, Sweep, hinges_of};
 use samples::{MOST, book_with, family, rules_of_all_kinds};
 use segments::{Segment, segment_from};
 use std::process::Abort;
 use std::test::Fail;
 use wire::RuleKind;
 
-// From the bound down to 0, without gap or overlap, each is the one that goes on from where it begins.
+/// From the bound down to 0, without gap or overlap, each is the one that goes on from where it begins.
 pub(crate) fn down(rt: &impl Abort, book: &Book) -> Result<(), Fail> {
     let in_order = hinges_of(book);
     let hinges = in_order.as_slice();
     let mut last = book.bound();
-    let mut left = Left::up_to(hinges, last);
+    let mut sweep = Sweep::up_to(hinges, last);
     for _ in 0..129 {
-        let segment = left.segment(hinges, last);
+        let segment = sweep.segment(hinges, last);
         if segment.from > last {
             return Err(Fail::new("it begins above its end"));
         }
@@ -27,97 +27,97 @@ pub(crate) fn down(rt: &impl Abort, book: &Book) -> Result<(), Fail> {
         if segment.from == 0 {
             return Ok(());
         }
-        left = left.past(hinges, segment);
+        sweep = sweep.past(hinges, segment);
         last = segment.from - 1;
     }
     Err(Fail::new("more than a book has"))
 }
 
-// At the beginning of the segment the hinges are undone one by one, to come to these, and no more.
+/// At the beginning of the segment the hinges are undone one by one, to come to these, and no more.
 fn undone(
     rt: &impl Abort,
     hinges: &[Hinge],
-    left: Left,
+    sweep: Sweep,
     segment: Segment,
-    expected: &[Left],
-) -> Result<Left, Fail>
+    expected: &[Sweep],
+) -> Result<Sweep, Fail>
     requires sized { Sized hinges.now }
     requires ordered { Ordered hinges.now }
     requires low { segment.from ≤ 1000000000 }
     requires some { 0 < segment.from }
-    requires left { (g : ℕ) × LeftAt hinges.now g left × (segment ≡ segment_by (sum_of hinges.now g) g) }
+    requires sweep { (g : ℕ) × SweepAt hinges.now g sweep × (segment ≡ segment_by (sum_of hinges.now g) g) }
 {
-    let mut left = left.back_to(segment);
+    let mut sweep = sweep.back_to(segment);
     for expected in expected {
-        let Some(fewer) = left.without_last(hinges, segment.from) else {
-            return Err(Fail::new("none is left there"));
+        let Some(fewer) = sweep.without_last(hinges, segment.from) else {
+            return Err(Fail::new("none is sweep there"));
         };
         assert_eq!(rt; fewer, *expected);
-        left = fewer;
+        sweep = fewer;
     }
-    let None = left.without_last(hinges, segment.from) else {
-        return Err(Fail::new("one more is left there"));
+    let None = sweep.without_last(hinges, segment.from) else {
+        return Err(Fail::new("one more is sweep there"));
     };
-    Ok(left.one_below(hinges, segment.from))
+    Ok(sweep.one_below(hinges, segment.from))
 }
 
-// So at the beginning of the segment that ends with the gross, and one below it.
+/// So at the beginning of the segment that ends with the gross, and one below it.
 fn back(
     rt: &impl Abort,
     book: &Book,
     gross: u32,
-    expected: &[Left],
-    below: Left,
+    expected: &[Sweep],
+    below: Sweep,
 ) -> Result<(), Fail> {
     if gross > MOST {
         return Err(Fail::new("above every bound"));
     }
     let in_order = hinges_of(book);
     let hinges = in_order.as_slice();
-    let left = Left::up_to(hinges, gross);
-    let segment = left.segment(hinges, gross);
+    let sweep = Sweep::up_to(hinges, gross);
+    let segment = sweep.segment(hinges, gross);
     if segment.from == 0 || segment.from > gross {
         return Err(Fail::new("none is below"));
     }
-    assert_eq!(rt; undone(rt, hinges, left, segment, expected)?, below);
-    assert_eq!(rt; left.past(hinges, segment), below);
+    assert_eq!(rt; undone(rt, hinges, sweep, segment, expected)?, below);
+    assert_eq!(rt; sweep.past(hinges, segment), below);
     Ok(())
 }
 
-fn left(many: usize, net: i64, slope: i64) -> Left {
-    Left { many, net, slope }
+fn sweep(many: usize, net: i64, slope: i64) -> Sweep {
+    Sweep { many, net, slope }
 }
 
 #[test]
 fn one_by_one(rt: HostRuntime) -> Result<(), Fail> {
     let book = book_with(20, &[RuleKind::Give.rule([5, 12, 3_000])])?;
-    let at_12 = [left(2, 141_000, 13_000)];
+    let at_12 = [sweep(2, 141_000, 13_000)];
     for gross in [12, 13, 20, MOST] {
-        back(&rt, &book, gross, &at_12, left(2, 128_000, 13_000))?;
+        back(&rt, &book, gross, &at_12, sweep(2, 128_000, 13_000))?;
     }
-    let at_5 = [left(1, 50_000, 10_000)];
+    let at_5 = [sweep(1, 50_000, 10_000)];
     for gross in [5, 7, 11] {
-        back(&rt, &book, gross, &at_5, left(1, 40_000, 10_000))?;
+        back(&rt, &book, gross, &at_5, sweep(1, 40_000, 10_000))?;
     }
     Ok(())
 }
 
-// A fade that is there twice: of each 5,000 of 9,000 are left at 9.
+/// A fade that is there twice: of each 5,000 of 9,000 are left at 9.
 #[test]
 fn two_at_once(rt: HostRuntime) -> Result<(), Fail> {
     let book = book_with(20, &[RuleKind::Fade.rule([4, 9_000, 5]); 2])?;
-    let at_10 = [left(6, 96_000, 1_000), left(5, 92_000, -8_000)];
+    let at_10 = [sweep(6, 96_000, 1_000), sweep(5, 92_000, -8_000)];
     for gross in [10, 11, MOST] {
-        back(&rt, &book, gross, &at_10, left(5, 100_000, -8_000))?;
+        back(&rt, &book, gross, &at_10, sweep(5, 100_000, -8_000))?;
     }
-    let at_4 = [left(4, 140_000, 1_000), left(3, 140_000, 10_000)];
+    let at_4 = [sweep(4, 140_000, 1_000), sweep(3, 140_000, 10_000)];
     for gross in [4, 5, 9] {
-        back(&rt, &book, gross, &at_4, left(3, 130_000, 10_000))?;
+        back(&rt, &book, gross, &at_4, sweep(3, 130_000, 10_000))?;
     }
     Ok(())
 }
 
-// Breakpoints lie at, before and beyond each of the bounds.
+/// Breakpoints lie at, before and beyond each of the bounds.
 #[test]
 fn of_all_kinds(rt: HostRuntime) -> Result<(), Fail> {
     for bound in 0..22 {
@@ -137,7 +137,7 @@ fn of_a_family(rt: HostRuntime) -> Result<(), Fail> {
     Ok(())
 }
 
-// 0, 5 and 10 are breakpoints of several rules each; 11 is past most of the bounds.
+/// 0, 5 and 10 are breakpoints of several rules each; 11 is past most of the bounds.
 #[test]
 fn together(rt: HostRuntime) -> Result<(), Fail> {
     let rules = [

@@ -6,10 +6,10 @@ use Rattle.std.proofs.lemmas.Bool.{cases_lt}
 use Rattle.std.proofs.lemmas.Grind.{reverse_onto}
 use Rattle.std.proofs.lemmas.List.{drop_all, length-map}
 use Rattle.raise.proofs.Picks.{none_some}
-use Rattle.raise.specs.declared.LosingRange.{LosingRange}
+use Rattle.raise.specs.declared.LosingRow.{LosingRow}
 use Rattle.raise.specs.Rules.{Rule, lesser}
 use Rattle.raise.specs.Net.{net}
-use Rattle.raise.specs.Ranges.{greater}
+use Rattle.raise.specs.Rows.{greater}
 use Rattle.segments.specs.declared.lines.Segment.{Segment}
 use Rattle.segments.specs.Segments.{segments, Chain}
 use Rattle.segments.proofs.Cover.{segments_cover}
@@ -37,7 +37,7 @@ falls_back [] x e c = sym c
 falls_back (s ∷ ss) x e c = rw (reverse_onto ss s []) (falls_push (reverse ss) s e x s.to (falls_back ss s.to e c.1) refl c.0)
 
 -- those of the entries that are not yet read, each of which is as large as can be computed with; what is lost from x on is known
-pub record State (rs : List Rule) (b : ℕ) (r : LosingRange) (chunks : List (List ℕ)) (i most : ℕ) : Type 0 where
+pub record State (rs : List Rule) (b : ℕ) (r : LosingRow) (chunks : List (List ℕ)) (i most : ℕ) : Type 0 where
   pub es : List Entry
   pub read : map read_entry chunks ≡ map Some es
   pub each : AllByRecursion (EntryOf rs b) (drop i es)
@@ -47,14 +47,14 @@ pub record State (rs : List Rule) (b : ℕ) (r : LosingRange) (chunks : List (Li
   pub found : MostOver (net rs) b (greater x r.first) (suc r.last) most
 
 -- closed, so that a search goes by the lemmas about it
-pub data At (rs : List Rule) (b : ℕ) (r : LosingRange) (chunks : List (List ℕ)) (i most : ℕ) : Type 0 where
+pub data At (rs : List Rule) (b : ℕ) (r : LosingRow) (chunks : List (List ℕ)) (i most : ℕ) : Type 0 where
   at : State rs b r chunks i most → At rs b r chunks i most
 
-state : {rs : List Rule} {b : ℕ} {r : LosingRange} {chunks : List (List ℕ)} {i most : ℕ} → At rs b r chunks i most → State rs b r chunks i most
+state : {rs : List Rule} {b : ℕ} {r : LosingRow} {chunks : List (List ℕ)} {i most : ℕ} → At rs b r chunks i most → State rs b r chunks i most
 state (at s) = s
 
 -- above the bound nothing is lost
-pub begins : (rs : List Rule) (b : ℕ) (r : LosingRange) (chunks : List (List ℕ)) → map read_entry chunks ≡ map Some (table rs b) → AllByRecursion SizedEntry (table rs b) → At rs b r chunks 0 0
+pub begins : (rs : List Rule) (b : ℕ) (r : LosingRow) (chunks : List (List ℕ)) → map read_entry chunks ≡ map Some (table rs b) → AllByRecursion SizedEntry (table rs b) → At rs b r chunks 0 0
 begins rs b r chunks e z =
     at (record {
       es = table rs b;
@@ -73,7 +73,7 @@ sooner : (x a g : ℕ) → g < lesser x a → g < a
 sooner x a g lt = grind arith
 
 -- one stretch more, that ends where what is known begins
-joined : (rs : List Rule) (b : ℕ) (r : LosingRange) (y x m n : ℕ) → y ≤ x → MostOver (net rs) b (greater x r.first) (suc r.last) m → MostOver (net rs) b (greater y r.first) (lesser x (suc r.last)) n →
+joined : (rs : List Rule) (b : ℕ) (r : LosingRow) (y x m n : ℕ) → y ≤ x → MostOver (net rs) b (greater x r.first) (suc r.last) m → MostOver (net rs) b (greater y r.first) (lesser x (suc r.last)) n →
     MostOver (net rs) b (greater y r.first) (suc r.last) (max m n)
 joined rs b r y x m n le i j =
     record {
@@ -87,7 +87,7 @@ joined rs b r y x m n le i j =
       ];
     }
 
-module _ {rs : List Rule} {b : ℕ} {r : LosingRange} {chunks : List (List ℕ)} {i most : ℕ} (h : At rs b r chunks i most) where
+module _ {rs : List Rule} {b : ℕ} {r : LosingRow} {chunks : List (List ℕ)} {i most : ℕ} (h : At rs b r chunks i most) where
   s : State rs b r chunks i most
   s = state h
 

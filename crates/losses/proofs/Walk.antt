@@ -2,18 +2,18 @@
 use Rattle.std.proofs.Common.{◌≡◌, ℕ, suc, ◌+◌, ◌*◌, ◌<◌, ◌≤◌, Bool, true, ◌||◌, ltb, eqb, List, [], ◌∷◌, ◌++◌, map, reverse, length, drop, Some, None, Option, MatchOption, IfSome, sym, refl, ap, ◌∙◌, inl, inr, arith}
 use Rattle.std.specs.List.{AllByRecursion, flat_map}
 use Rattle.raise.proofs.Picks.{none_some, not_picked}
-use Rattle.raise.proofs.Ranges.{losing_found, only_ranges}
-use Rattle.raise.specs.declared.LosingRange.{LosingRange}
+use Rattle.raise.proofs.AllRows.{losing_found, only_rows}
+use Rattle.raise.specs.declared.LosingRow.{LosingRow}
 use Rattle.raise.specs.Rules.{Rule, loses}
-use Rattle.raise.specs.Ranges.{lies_in, lies_in_one, Apart, RangesOf, losing_ranges}
+use Rattle.raise.specs.Rows.{lies_in, lies_in_one, Apart, RowsOf, losing_rows}
 use Rattle.segments.specs.Segments.{segments, Chain}
 use Rattle.segments.proofs.Cover.{segments_cover}
 use Rattle.lowest.specs.declared.entries.Entry.{Entry}
 use Rattle.lowest.specs.Entries.{read_entry}
 use Rattle.lowest.specs.Table.{entry, table, most_entries, EntryOf, SizedEntry, loses_on}
 use Rattle.lowest.proofs.Tells.{table_is, by_entry}
-use Rattle.losses.specs.Words.{width, range_words, with_row, how_many, with_ranges, Fits}
-use Rattle.losses.proofs.Slots.{with_last, row_put, ranges_fit}
+use Rattle.losses.specs.Words.{width, row_words, with_row, how_many, with_rows, Fits}
+use Rattle.losses.proofs.Slots.{with_last, row_put, rows_fit}
 use Rattle.losses.specs.Parts.{PartOf, joined}
 use Rattle.losses.proofs.Lists.{map_back, next_read, none_ahead, all_split}
 use Rattle.losses.proofs.Behind.{lies_push, apart_first, apart_push, apart_longer, last_some, extended}
@@ -24,7 +24,7 @@ use Rattle.std.proofs.Math.Bool.{or_assoc}
 use Rattle.std.proofs.lemmas.List.{map-id, length-map, length_push}
 
 -- the part of an entry's segment that loses
-abbrev pub PartIn : Entry → Option LosingRange → Type 0
+abbrev pub PartIn : Entry → Option LosingRow → Type 0
 PartIn e p = PartOf (loses_on e) e.segment.from e.segment.to p
 
 -- what is ahead: the entries, the next of them first, whose segments go on from x up to b
@@ -38,20 +38,20 @@ pub record Ahead (rs : List Rule) (b : ℕ) (chunks : List (List ℕ)) : Type 0 
   pub low : x ≤ 1000000001
 
 -- where the walk stands: rows are written, in words of which ws were there before, and with the last they are those before x
-pub record State (rs : List Rule) (b : ℕ) (ws : List ℕ) (chunks : List (List ℕ)) (count : ℕ) (last : Option LosingRange) (us : List ℕ) : Type 0 where
+pub record State (rs : List Rule) (b : ℕ) (ws : List ℕ) (chunks : List (List ℕ)) (count : ℕ) (last : Option LosingRow) (us : List ℕ) : Type 0 where
   pub ahead : Ahead rs b chunks
-  pub rows : List LosingRange
+  pub rows : List LosingRow
   pub counted : count ≡ length rows
-  pub written : us ≡ flat_map range_words rows ++ drop (width * count) ws
-  pub found : RangesOf (loses rs b) ahead.x (with_last rows last)
+  pub written : us ≡ flat_map row_words rows ++ drop (width * count) ws
+  pub found : RowsOf (loses rs b) ahead.x (with_last rows last)
   pub fresh : last ≡ None → rows ≡ []
   pub room : length (with_last rows last) + length ahead.es ≤ most_entries rs
 
 -- closed, so that a search goes by the lemmas about it
-pub data At (rs : List Rule) (b : ℕ) (ws : List ℕ) (chunks : List (List ℕ)) (count : ℕ) (last : Option LosingRange) (us : List ℕ) : Type 0 where
+pub data At (rs : List Rule) (b : ℕ) (ws : List ℕ) (chunks : List (List ℕ)) (count : ℕ) (last : Option LosingRow) (us : List ℕ) : Type 0 where
   at : State rs b ws chunks count last us → At rs b ws chunks count last us
 
-state : {rs : List Rule} {b : ℕ} {ws : List ℕ} {chunks : List (List ℕ)} {count : ℕ} {last : Option LosingRange} {us : List ℕ} → At rs b ws chunks count last us → State rs b ws chunks count last us
+state : {rs : List Rule} {b : ℕ} {ws : List ℕ} {chunks : List (List ℕ)} {count : ℕ} {last : Option LosingRow} {us : List ℕ} → At rs b ws chunks count last us → State rs b ws chunks count last us
 state (at s) = s
 
 -- ---- the beginning: all entries are ahead
@@ -79,8 +79,8 @@ module _ (rs : List Rule) (b : ℕ) where
         room = omega (arith, length-map (segments rs b) (entry rs b), c.few);
       })
 
--- the last range is before what is not yet looked at
-ends_before : (test : ℕ → Bool) (x : ℕ) (rows : List LosingRange) (r : LosingRange) → RangesOf test x (rows ++ (r ∷ [])) → r.last < x
+-- the last row is before what is not yet looked at
+ends_before : (test : ℕ → Bool) (x : ℕ) (rows : List LosingRow) (r : LosingRow) → RowsOf test x (rows ++ (r ∷ [])) → r.last < x
 ends_before test x rows r i =
     let o = last_some 0 rows r i.apart in
     let l : lies_in_one (rows ++ (r ∷ [])) r.last ≡ true = lies_push rows r r.last ∙ or_right (lies_in_one rows r.last) (lies_in r r.last) (grind (arith, o)) in
@@ -88,7 +88,7 @@ ends_before test x rows r i =
 
 -- ---- one segment more
 
-module _ {rs : List Rule} {b : ℕ} {ws : List ℕ} {all : List (List ℕ)} {count : ℕ} {last : Option LosingRange} {us : List ℕ} (h : At rs b ws all count last us)
+module _ {rs : List Rule} {b : ℕ} {ws : List ℕ} {all : List (List ℕ)} {count : ℕ} {last : Option LosingRow} {us : List ℕ} (h : At rs b ws all count last us)
     (chunks : List (List ℕ)) (words : List ℕ) (next : all ≡ chunks ++ (words ∷ [])) where
   pub a : State rs b ws all count last us
   a = state h
@@ -128,7 +128,7 @@ module _ {rs : List Rule} {b : ℕ} {ws : List ℕ} {all : List (List ℕ)} {cou
   read_sized o f x g = rw (← same o f x g) (sized.1, some)
 
   -- the part of what was read
-  part_read : (o : Option Entry) (p : Option LosingRange) → o ≡ read_entry words → MatchOption o (p ≡ None) (λ x. PartIn x p) → PartIn e p
+  part_read : (o : Option Entry) (p : Option LosingRow) → o ≡ read_entry words → MatchOption o (p ≡ None) (λ x. PartIn x p) → PartIn e p
   part_read None p f m = none_some e (f ∙ first.4)
   part_read (Some x) p f m = rw (same (Some x) f x refl) m
 
@@ -139,12 +139,12 @@ module _ {rs : List Rule} {b : ℕ} {ws : List ℕ} {all : List (List ℕ)} {cou
   more : a.ahead.x < e.segment.to
   more = omega (arith, chain.0, some)
 
-  module _ (p : Option LosingRange) (part : PartIn e p) where
+  module _ (p : Option LosingRow) (part : PartIn e p) where
     passing : PartOf (loses rs b) a.ahead.x e.segment.to p
     passing = record { exact = λ g lo hi. part.exact g (omega (arith, chain.0, lo)) hi ∙ sym (here g lo hi); within = rw (← chain.0) part.within }
 
   -- no part of it loses
-  pub passes : (o : Option Entry) → o ≡ read_entry words → MatchOption o (◌≡◌ {A = Option LosingRange} None None) (λ x. PartIn x None) → At rs b ws chunks count last us
+  pub passes : (o : Option Entry) → o ≡ read_entry words → MatchOption o (◌≡◌ {A = Option LosingRow} None None) (λ x. PartIn x None) → At rs b ws chunks count last us
   unfolding others
   passes o f m =
       let part = part_read o None f m in
@@ -158,7 +158,7 @@ module _ {rs : List Rule} {b : ℕ} {ws : List ℕ} {all : List (List ℕ)} {cou
         room = omega (arith, a.room, ap length first.2);
       })
 
-  module _ (p : LosingRange) (o : Option Entry) (f : o ≡ read_entry words) (m : MatchOption o (Some p ≡ None) (λ x. PartIn x (Some p))) where
+  module _ (p : LosingRow) (o : Option Entry) (f : o ≡ read_entry words) (m : MatchOption o (Some p ≡ None) (λ x. PartIn x (Some p))) where
     part : PartIn e (Some p)
     part = part_read o (Some p) f m
 
@@ -168,19 +168,19 @@ module _ {rs : List Rule} {b : ℕ} {ws : List ℕ} {all : List (List ℕ)} {cou
     pub last_before : IfSome last (λ r. r.last < p.first)
     last_before = by_last last a.found
       where
-        by_last : (l : Option LosingRange) → RangesOf (loses rs b) a.ahead.x (with_last a.rows l) → IfSome l (λ r. r.last < p.first)
+        by_last : (l : Option LosingRow) → RowsOf (loses rs b) a.ahead.x (with_last a.rows l) → IfSome l (λ r. r.last < p.first)
         by_last None i = tt
         by_last (Some r) i = omega (arith, ends_before (loses rs b) a.ahead.x a.rows r i, q.within.0)
 
     -- the last row and it are one
-    longer_found : (l longer : Option LosingRange) → RangesOf (loses rs b) a.ahead.x (with_last a.rows l) → longer ≡ joined l p → (longer ≡ None → ⊥) →
-        RangesOf (loses rs b) e.segment.to (with_last a.rows longer) × (length (with_last a.rows longer) ≡ length (with_last a.rows l))
+    longer_found : (l longer : Option LosingRow) → RowsOf (loses rs b) a.ahead.x (with_last a.rows l) → longer ≡ joined l p → (longer ≡ None → ⊥) →
+        RowsOf (loses rs b) e.segment.to (with_last a.rows longer) × (length (with_last a.rows longer) ≡ length (with_last a.rows l))
     longer_found None longer i j some = absurd (some j)
     longer_found (Some r) longer i j some =
         elim (cases_eq p.first (suc r.last)) [
           | inr apart ↦ absurd (some (j ∙ rw (ne_eqb _ _ apart) refl))
           | inl touch ↦
-              let k : LosingRange = record { first = r.first; last = p.last } in
+              let k : LosingRow = record { first = r.first; last = p.last } in
               let t : longer ≡ Some k = j ∙ rw (eq-eqb _ _ touch) refl in
               let w = q.within in
               let o = last_some 0 a.rows r i.apart in
@@ -194,7 +194,7 @@ module _ {rs : List Rule} {b : ℕ} {ws : List ℕ} {all : List (List ℕ)} {cou
               )
         ]
 
-    pub joins : (longer : Option LosingRange) → longer ≡ joined last p → (longer ≡ None → ⊥) → At rs b ws chunks count longer us
+    pub joins : (longer : Option LosingRow) → longer ≡ joined last p → (longer ≡ None → ⊥) → At rs b ws chunks count longer us
     unfolding others
     joins longer j some =
         let i = longer_found last longer a.found j some in
@@ -224,7 +224,7 @@ module _ {rs : List Rule} {b : ℕ} {ws : List ℕ} {all : List (List ℕ)} {cou
           room = omega (arith, a.room, ap length first.2, length_push rows p);
         })
       where
-        apart : (l : Option LosingRange) → RangesOf (loses rs b) a.ahead.x (with_last a.rows l) → None ≡ joined l p → (l ≡ None → a.rows ≡ []) → Apart 0 (with_last a.rows l ++ (p ∷ []))
+        apart : (l : Option LosingRow) → RowsOf (loses rs b) a.ahead.x (with_last a.rows l) → None ≡ joined l p → (l ≡ None → a.rows ≡ []) → Apart 0 (with_last a.rows l ++ (p ∷ []))
         apart None i j f = rw (f refl) (apart_first 0 p (omega arith) q.within.1)
         apart (Some r) i j f =
             let n = eqb-false _ _ (not_picked (eqb p.first (suc r.last)) (record { first = r.first; last = p.last }) j) in
@@ -232,7 +232,7 @@ module _ {rs : List Rule} {b : ℕ} {ws : List ℕ} {all : List (List ℕ)} {cou
 
 -- ---- what the walk ends with
 
-module _ {rs : List Rule} {b : ℕ} {ws : List ℕ} {chunks : List (List ℕ)} {count : ℕ} {last : Option LosingRange} {us : List ℕ} (h : At rs b ws chunks count last us) where
+module _ {rs : List Rule} {b : ℕ} {ws : List ℕ} {chunks : List (List ℕ)} {count : ℕ} {last : Option LosingRow} {us : List ℕ} (h : At rs b ws chunks count last us) where
   s : State rs b ws chunks count last us
   s = state h
 
@@ -240,7 +240,7 @@ module _ {rs : List Rule} {b : ℕ} {ws : List ℕ} {chunks : List (List ℕ)} {
   pub room : (n : ℕ) → width * most_entries rs ≤ n → IfSome last (λ r. width * count + width ≤ n)
   room n le = by_last last s.room
     where
-      by_last : (l : Option LosingRange) → length (with_last s.rows l) + length s.ahead.es ≤ most_entries rs → IfSome l (λ r. width * count + width ≤ n)
+      by_last : (l : Option LosingRow) → length (with_last s.rows l) + length s.ahead.es ≤ most_entries rs → IfSome l (λ r. width * count + width ≤ n)
       by_last None i = tt
       by_last (Some r) i = omega (arith, i, length_push s.rows r, s.counted, le)
 
@@ -249,19 +249,19 @@ module _ {rs : List Rule} {b : ℕ} {ws : List ℕ} {chunks : List (List ℕ)} {
     unfolding Chain
     at_end = rw (none_ahead read_entry s.ahead.es chunks none s.ahead.read) at s.ahead.chain
 
-    all : with_last s.rows last ≡ losing_ranges rs b
-    all = only_ranges (loses rs b) (suc b) (with_last s.rows last) (losing_ranges rs b) (rw at_end at s.found) (losing_found rs b)
+    all : with_last s.rows last ≡ losing_rows rs b
+    all = only_rows (loses rs b) (suc b) (with_last s.rows last) (losing_rows rs b) (rw at_end at s.found) (losing_found rs b)
 
-    pub ends_count : (n : ℕ) → n ≡ how_many last + count → n ≡ length (losing_ranges rs b)
+    pub ends_count : (n : ℕ) → n ≡ how_many last + count → n ≡ length (losing_rows rs b)
     ends_count n c = c ∙ (row_put ws us s.rows count last s.counted s.written).0 ∙ ap length all
 
     pub ends_few : (n : ℕ) → n ≡ how_many last + count → n ≤ most_entries rs
     ends_few n c = omega (arith, c, (row_put ws us s.rows count last s.counted s.written).0, s.room)
 
-    pub ends_words : (vs : List ℕ) → vs ≡ with_row us count last → vs ≡ with_ranges ws (losing_ranges rs b)
+    pub ends_words : (vs : List ℕ) → vs ≡ with_row us count last → vs ≡ with_rows ws (losing_rows rs b)
     ends_words vs w =
         let put = row_put ws us s.rows count last s.counted s.written in
         rw (put.0, all) at (w ∙ put.1)
 
-    pub ends_fit : AllByRecursion Fits (losing_ranges rs b)
-    ends_fit = ranges_fit rs b (omega (arith, at_end, s.ahead.low))
+    pub ends_fit : AllByRecursion Fits (losing_rows rs b)
+    ends_fit = rows_fit rs b (omega (arith, at_end, s.ahead.low))

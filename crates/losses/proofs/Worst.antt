@@ -4,11 +4,11 @@ use lib.Signed.{lt_z}
 use Rattle.std.specs.Int.{int_max, int_min}
 use Rattle.std.proofs.lemmas.Int.{ints, int_max_is, int_min_is}
 use Rattle.std.proofs.lemmas.Bool.{both_ways, cases_Bool, cases_eq, cases_lt, leb-true, ltb-true, lt-ltb}
-use Rattle.raise.specs.declared.LosingRange.{LosingRange}
+use Rattle.raise.specs.declared.LosingRow.{LosingRow}
 use Rattle.raise.specs.Rules.{Rule, lesser, loses}
 use Rattle.raise.specs.Net.{net, Straight}
 use Rattle.raise.specs.Lowest.{lesser_of, lowest_from, Lowest}
-use Rattle.raise.specs.Ranges.{greater}
+use Rattle.raise.specs.Rows.{greater}
 use Rattle.raise.proofs.Lines.{rises, falls}
 use Rattle.raise.proofs.Picks.{picked}
 use Rattle.raise.proofs.Lows.{lowest_is}
@@ -66,7 +66,7 @@ module _ (rs : List Rule) (b g : ℕ) where
 pub loss_by_lowest : (rs : List Rule) (b : ℕ) → LossByLowest rs b
 loss_by_lowest rs b g = by_lowest rs b g (lowest_from rs b (suc g)) (lowest_is rs b (suc g))
 
-pub most_is : (rs : List Rule) (b : ℕ) (r : LosingRange) → MostLost rs b r (most_lost rs b r)
+pub most_is : (rs : List Rule) (b : ℕ) (r : LosingRow) → MostLost rs b r (most_lost rs b r)
 unfolding most_lost
 most_is rs b r =
     record {
@@ -91,11 +91,11 @@ no_more f b x e m n i j =
 pub one_most : (f : ℕ → ℤ) (b x e m n : ℕ) → MostOver f b x e m → MostOver f b x e n → m ≡ n
 one_most f b x e m n i j = omega (arith, no_more f b x e m n i j, no_more f b x e n m j i)
 
-pub is_the_most : (rs : List Rule) (b : ℕ) (r : LosingRange) (n : ℕ) → MostLost rs b r n → n ≡ most_lost rs b r
+pub is_the_most : (rs : List Rule) (b : ℕ) (r : LosingRow) (n : ℕ) → MostLost rs b r n → n ≡ most_lost rs b r
 is_the_most rs b r n i = one_most (net rs) b r.first (suc r.last) n (most_lost rs b r) i (most_is rs b r)
 
 -- it is 0 just where nobody loses
-pub nobody : (rs : List Rule) (b : ℕ) (r : LosingRange) (n : ℕ) → MostLost rs b r n → (n ≡ 0 → NobodyIn rs b r) × (NobodyIn rs b r → n ≡ 0)
+pub nobody : (rs : List Rule) (b : ℕ) (r : LosingRow) (n : ℕ) → MostLost rs b r n → (n ≡ 0 → NobodyIn rs b r) × (NobodyIn rs b r → n ≡ 0)
 nobody rs b r n i = (
   λ z g lo hi. elim (cases_Bool (loses rs b g)) [
     | inr u ↦ u
@@ -202,16 +202,16 @@ on_entry rs b e i x y lo le hi n a =
           elim (cases_Bool (lt_z m end)) [ inl t ↦ rw t (inr i) | inr u ↦ rw u (inl refl) ],
         )
 
-part_is : (r p : LosingRange) (from to : ℕ) → from < to → Some p ≡ part_on r from to →
+part_is : (r p : LosingRow) (from to : ℕ) → from < to → Some p ≡ part_on r from to →
     (p.first ≡ greater from r.first) × (suc p.last ≡ lesser to (suc r.last)) × (from ≤ p.first) × (p.first ≤ p.last) × (p.last < to)
 part_is r p from to some e =
     let k = picked _ _ _ e in
     let o = leb-true _ _ k.0 in
-    let f : p.first ≡ greater from r.first = ap (λ (q : LosingRange). q.first) k.1 in
-    let l : p.last ≡ lesser (to - 1) r.last = ap (λ (q : LosingRange). q.last) k.1 in
+    let f : p.first ≡ greater from r.first = ap (λ (q : LosingRow). q.first) k.1 in
+    let l : p.last ≡ lesser (to - 1) r.last = ap (λ (q : LosingRow). q.last) k.1 in
     (f, grind (arith, l, some), grind (arith, f), omega (arith, f, l, o), grind (arith, l, some))
 
--- of those of a range who are on it
-pub on_range : (e : Entry) (r p : LosingRange) (n : ℕ) → e.segment.from < e.segment.to → Some p ≡ part_on r e.segment.from e.segment.to → n ≡ fall_on e p.first p.last →
+-- of those of a row who are on it
+pub on_row : (e : Entry) (r p : LosingRow) (n : ℕ) → e.segment.from < e.segment.to → Some p ≡ part_on r e.segment.from e.segment.to → n ≡ fall_on e p.first p.last →
     (rs : List Rule) (b : ℕ) → EntryOf rs b e → MostOver (net rs) b (greater e.segment.from r.first) (lesser e.segment.to (suc r.last)) n
-on_range e r p n some here a rs b i = let k = part_is r p e.segment.from e.segment.to some here in rw (← k.0, ← k.1) (on_entry rs b e i p.first p.last k.2 k.3 k.4 n a)
+on_row e r p n some here a rs b i = let k = part_is r p e.segment.from e.segment.to some here in rw (← k.0, ← k.1) (on_entry rs b e i p.first p.last k.2 k.3 k.4 n a)

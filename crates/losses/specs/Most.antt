@@ -1,11 +1,11 @@
--- The most that is lost in a range of earnings: how it is found by trying, and what it says. Definitions only: nothing is assumed.
+-- The most that is lost in a row of earnings: how it is found by trying, and what it says. Definitions only: nothing is assumed.
 use Rattle.std.specs.Prelude.{◌≡◌, ℕ, zero, suc, ◌+◌, ◌-◌, ◌<◌, ◌≤◌, false, List, ℤ, pos, ◌-ℤ◌, ◌≤ℤ◌, Some, None, Option, nat_le, unsigned_abs}
 use Rattle.std.specs.Int.{int_max, int_min}
-use Rattle.raise.specs.declared.LosingRange.{LosingRange}
+use Rattle.raise.specs.declared.LosingRow.{LosingRow}
 use Rattle.raise.specs.Rules.{pick, lesser, Rule, all_plus, all_minus, loses}
 use Rattle.raise.specs.Net.{net, on_line}
 use Rattle.raise.specs.Lowest.{lesser_of, lowest_from}
-use Rattle.raise.specs.Ranges.{greater}
+use Rattle.raise.specs.Rows.{greater}
 use Rattle.lowest.specs.declared.entries.Entry.{Entry}
 
 -- ---- by trying
@@ -23,8 +23,8 @@ greatest_over f (suc n) x = greater (f x) (greatest_over f n (suc x))
 abbrev pub loss : List Rule → ℕ → ℕ → ℕ
 loss rs b g = greatest_over (shortfall rs g) (b - g) (suc g)
 
--- the most that anybody in a range does; 0 where nobody in it loses, and where it is empty
-unfoldable pub most_lost : List Rule → ℕ → LosingRange → ℕ
+-- the most that anybody in a row does; 0 where nobody in it loses, and where it is empty
+unfoldable pub most_lost : List Rule → ℕ → LosingRow → ℕ
 most_lost rs b r = greatest_over (loss rs b) (suc r.last - r.first) r.first
 
 -- ---- what that says
@@ -35,12 +35,12 @@ pub record MostOver (f : ℕ → ℤ) (b x e n : ℕ) : Type 0 where
   pub bounds : (g h : ℕ) → x ≤ g → g < e → g < h → h ≤ b → (f g -ℤ f h) ≤ℤ pos n
   pub reached : 0 < n → (g : ℕ) × (h : ℕ) × (x ≤ g) × (g < e) × (g < h) × (h ≤ b) × ((f g -ℤ f h) ≡ pos n)
 
--- nobody in the range loses more than n, and somebody just that, unless it is 0
-abbrev pub MostLost : List Rule → ℕ → LosingRange → ℕ → Type 0
+-- nobody in the row loses more than n, and somebody just that, unless it is 0
+abbrev pub MostLost : List Rule → ℕ → LosingRow → ℕ → Type 0
 MostLost rs b r n = MostOver (net rs) b r.first (suc r.last) n
 
--- nobody in the range loses
-abbrev pub NobodyIn : List Rule → ℕ → LosingRange → Type 0
+-- nobody in the row loses
+abbrev pub NobodyIn : List Rule → ℕ → LosingRow → Type 0
 NobodyIn rs b r = (g : ℕ) → r.first ≤ g → g ≤ r.last → loses rs b g ≡ false
 
 -- by how much x is above the lowest, if there is one, and it is below x
@@ -54,8 +54,8 @@ LossByLowest rs b = (g : ℕ) → pos (loss rs b g) ≡ above_lowest (net rs g) 
 
 -- ---- on a segment
 
--- what of a range lies on [from, to), if anything does
-abbrev pub part_on : LosingRange → ℕ → ℕ → Option LosingRange
+-- what of a row lies on [from, to), if anything does
+abbrev pub part_on : LosingRow → ℕ → ℕ → Option LosingRow
 part_on r from to =
     pick (nat_le (greater from r.first) (lesser (to - 1) r.last)) (Some (record { first = greater from r.first; last = lesser (to - 1) r.last })) None
 

@@ -1,28 +1,28 @@
-// The most that is lost in a range of grosses.
+//! The most that is lost in a row of grosses.
 ghost use Rattle.std.specs.Prelude.{◌≡◌, ℕ, suc, ◌*◌, ◌<◌, ◌≤◌, ◌↔◌, List, length};
 ghost use Rattle.raise.specs.Rules.{Rule, lesser};
 ghost use Rattle.raise.specs.Net.{net};
-ghost use Rattle.raise.specs.Ranges.{greater};
+ghost use Rattle.raise.specs.Rows.{greater};
 ghost use Rattle.lowest.specs.Entries.{width as entry_width};
 ghost use Rattle.lowest.specs.Table.{table as table_of, most_entries, with_table, EntryOf, SizedEntry};
 ghost use Rattle.losses.specs.Most.{part_on, least_with, fall_on, MostOver, most_lost, MostLost, NobodyIn, LossByLowest};
 
 use book::Book;
 use lowest::{ENTRY_WORDS, Entry, read_entry, write_table};
-use raise::LosingRange;
+use raise::LosingRow;
 use segments::Segment;
 
-// What of the range lies on the segment, if anything does.
-fn part_on(range: LosingRange, segment: Segment) -> Option<LosingRange>
+/// What of the row lies on the segment, if anything does.
+fn part_on(row: LosingRow, segment: Segment) -> Option<LosingRow>
     requires { segment.from < segment.to }
-    ensures { result ≡ part_on range segment.from segment.to }
+    ensures { result ≡ part_on row segment.from segment.to }
 {
-    let first = segment.from.max(range.first);
-    let last = (segment.to - 1).min(range.last);
-    (first <= last).then_some(LosingRange { first, last })
+    let first = segment.from.max(row.first);
+    let last = (segment.to - 1).min(row.last);
+    (first <= last).then_some(LosingRow { first, last })
 }
 
-// The least of a net, of that at the segment's last, and of all beyond.
+/// The least of a net, of that at the segment's last, and of all beyond.
 fn least_with(entry: Entry, net: i64) -> i64
     requires sized { SizedEntry entry }
     requires some { entry.segment.from < entry.segment.to }
@@ -35,9 +35,9 @@ fn least_with(entry: Entry, net: i64) -> i64
     }
 }
 
-// The most that those lose who are on a part of the entry's segment. Where the line falls, most is left at the part's first, and
-// least at the segment's last or beyond. Where it doesn't, most is left at the part's last, and less than that only beyond.
-fn fall_on(entry: Entry, part: LosingRange) -> u64
+/// The most that those lose who are on a part of the entry's segment. Where the line falls, most is left at the part's first, and
+/// least at the segment's last or beyond. Where it doesn't, most is left at the part's last, and less than that only beyond.
+fn fall_on(entry: Entry, part: LosingRow) -> u64
     requires sized { SizedEntry entry }
     requires low { entry.segment.from ≤ part.first }
     requires some { part.first ≤ part.last }
@@ -49,24 +49,24 @@ fn fall_on(entry: Entry, part: LosingRange) -> u64
     top.abs_diff(least_with(entry, last))
 }
 
-// The most that those of the range lose who are on the entry's segment; 0 where nobody is.
-#[tactic(auto, using(crate::proofs::Worst::on_range))]
-fn most_on(entry: Entry, range: LosingRange) -> u64
+/// The most that those of the row lose who are on the entry's segment; 0 where nobody is.
+#[tactic(auto, using(crate::proofs::Worst::on_row))]
+fn most_on(entry: Entry, row: LosingRow) -> u64
     requires sized { SizedEntry entry }
     requires some { entry.segment.from < entry.segment.to }
-    ensures { (rs : List Rule) (b : ℕ) → EntryOf rs b entry → MostOver (net rs) b (greater entry.segment.from range.first) (lesser entry.segment.to (suc range.last)) result }
+    ensures { (rs : List Rule) (b : ℕ) → EntryOf rs b entry → MostOver (net rs) b (greater entry.segment.from row.first) (lesser entry.segment.to (suc row.last)) result }
 {
-    let Some(part) = part_on(range, entry.segment) else {
+    let Some(part) = part_on(row, entry.segment) else {
         return 0;
     };
     fall_on(entry, part)
 }
 
-// The greatest of these, over all segments of the book.
+/// The greatest of these, over all segments of the book.
 #[tactic(auto, using(crate::proofs::Descent::readable))]
-fn most_in(book: &Book, table: &mut [u64], range: LosingRange) -> u64
+fn most_in(book: &Book, table: &mut [u64], row: LosingRow) -> u64
     requires { entry_width * most_entries book.now.rules ≤ length table.old }
-    ensures most { MostLost book.now.rules book.now.bound range result }
+    ensures most { MostLost book.now.rules book.now.bound row result }
     ensures table { table.new ≡ with_table table.old 0 (table_of book.now.rules book.now.bound) }
 {
     let count = write_table(table, 0, book);
@@ -76,23 +76,23 @@ fn most_in(book: &Book, table: &mut [u64], range: LosingRange) -> u64
         let Some(entry) = read_entry(words) else {
             continue;
         };
-        most = most.max(most_on(entry, range));
+        most = most.max(most_on(entry, row));
     }
     most
 }
 
-// The most, in ten-thousandths, that anybody in a range loses by earning more, up to the bound; 0 where nobody in it does. The
-// range may be any, also one that is empty or that ends above the bound. The table of the book is left in the first words of
-// `scratch`.
+/// The most, in ten-thousandths, that anybody in a row loses by earning more, up to the bound; 0 where nobody in it does. The
+/// row may be any, also one that is empty or that ends above the bound. The table of the book is left in the first words of
+/// `scratch`.
 #[tactic(auto, using(crate::proofs::Worst::is_the_most, crate::proofs::Worst::one_most, crate::proofs::Worst::nobody, crate::proofs::Worst::loss_by_lowest))]
-pub fn most_lost(book: &Book, scratch: &mut [u64], range: LosingRange) -> u64
+pub fn most_lost(book: &Book, scratch: &mut [u64], row: LosingRow) -> u64
     requires { entry_width * most_entries book.now.rules ≤ length scratch.old }
-    ensures most { result ≡ most_lost book.now.rules book.now.bound range }
-    ensures exact { MostLost book.now.rules book.now.bound range result }
-    ensures only { (n : ℕ) → MostLost book.now.rules book.now.bound range n → n ≡ result }
-    ensures nobody { (result ≡ 0) ↔ NobodyIn book.now.rules book.now.bound range }
+    ensures most { result ≡ most_lost book.now.rules book.now.bound row }
+    ensures exact { MostLost book.now.rules book.now.bound row result }
+    ensures only { (n : ℕ) → MostLost book.now.rules book.now.bound row n → n ≡ result }
+    ensures nobody { (result ≡ 0) ↔ NobodyIn book.now.rules book.now.bound row }
     ensures lowest { LossByLowest book.now.rules book.now.bound }
     ensures scratch { scratch.new ≡ with_table scratch.old 0 (table_of book.now.rules book.now.bound) }
 {
-    most_in(book, scratch, range)
+    most_in(book, scratch, row)
 }

@@ -1,10 +1,10 @@
-// Where a range begins and ends on its segments, and where neighbours join.
-use crate::rows::*;
+//! Where a row begins and ends on its segments, and where neighbours join.
+use crate::one_row::*;
 use samples::{MOST, book_with};
 use std::test::Fail;
 use wire::RuleKind;
 
-// Of 7, 7.0001 is left, and of 10, of which 3 are taken, as much: 7 loses just if that is a ten-thousandth less.
+/// Of 7, 7.0001 is left, and of 10, of which 3 are taken, as much: 7 loses just if that is a ten-thousandth less.
 #[test]
 fn around_a_gross(rt: HostRuntime) -> Result<(), Fail> {
     let rules = [
@@ -22,7 +22,7 @@ fn around_a_gross(rt: HostRuntime) -> Result<(), Fail> {
     Ok(())
 }
 
-// The lowest beyond is one more than the segment's last, as much, one less; one more than its first, as much, one less.
+/// The lowest beyond is one more than the segment's last, as much, one less; one more than its first, as much, one less.
 #[test]
 fn at_both_ends(rt: HostRuntime) -> Result<(), Fail> {
     let cases = [
@@ -40,7 +40,7 @@ fn at_both_ends(rt: HostRuntime) -> Result<(), Fail> {
     Ok(())
 }
 
-// Of 10 to 20 the same is left: all of them lose if less is left of 25, and none if as much.
+/// Of 10 to 20 the same is left: all of them lose if less is left of 25, and none if as much.
 #[test]
 fn level(rt: HostRuntime) -> Result<(), Fail> {
     let rules = [
@@ -55,7 +55,7 @@ fn level(rt: HostRuntime) -> Result<(), Fail> {
     Ok(())
 }
 
-// Where all others on a falling segment lose by the next unit, the last, 19, loses only if less is left of 20 or more.
+/// Where all others on a falling segment lose by the next unit, the last, 19, loses only if less is left of 20 or more.
 #[test]
 fn the_last_that_falls(rt: HostRuntime) -> Result<(), Fail> {
     let falls = [
@@ -77,7 +77,7 @@ fn the_last_that_falls(rt: HostRuntime) -> Result<(), Fail> {
     Ok(())
 }
 
-// One row from the end of a rising segment over one that falls, a level one and one that falls again.
+/// One row from the end of a rising segment over one that falls, a level one and one that falls again.
 #[test]
 fn over_segments(rt: HostRuntime) -> Result<(), Fail> {
     let rules = [
@@ -88,16 +88,16 @@ fn over_segments(rt: HostRuntime) -> Result<(), Fail> {
     let book = book_with(60, &rules)?;
     found(&rt, &book, &[(8, 39)]);
     let rows = [
-        (8, Some(range(8, 39))),
-        (20, Some(range(20, 39))),
-        (39, Some(range(39, 39))),
+        (8, Some(row(8, 39))),
+        (20, Some(row(20, 39))),
+        (39, Some(row(39, 39))),
         (40, None),
     ];
     told(&rt, &book, &rows);
     Ok(())
 }
 
-// Of 12 no more is left than of 14, so it alone does not lose between 9 and 13.
+/// Of 12 no more is left than of 14, so it alone does not lose between 9 and 13.
 #[test]
 fn one_apart(rt: HostRuntime) -> Result<(), Fail> {
     let rules = [
@@ -107,10 +107,10 @@ fn one_apart(rt: HostRuntime) -> Result<(), Fail> {
     let book = book_with(30, &rules)?;
     found(&rt, &book, &[(9, 11), (13, 13)]);
     let rows = [
-        (9, Some(range(9, 11))),
-        (11, Some(range(11, 11))),
-        (12, Some(range(13, 13))),
-        (13, Some(range(13, 13))),
+        (9, Some(row(9, 11))),
+        (11, Some(row(11, 11))),
+        (12, Some(row(13, 13))),
+        (13, Some(row(13, 13))),
         (14, None),
     ];
     told(&rt, &book, &rows);
@@ -120,7 +120,7 @@ fn one_apart(rt: HostRuntime) -> Result<(), Fail> {
     Ok(())
 }
 
-// A sum of 100,000,000 ends at the bound, and two are taken of the last unit earned: 999,999,998 are left there, as of 899,999,998.
+/// A sum of 100,000,000 ends at the bound, and two are taken of the last unit earned: 999,999,998 are left there, as of 899,999,998.
 #[test]
 fn at_the_bound(rt: HostRuntime) -> Result<(), Fail> {
     let rules = [

@@ -1,4 +1,4 @@
-// Tests of the ranges of those who lose, as tables: which they are, the row from any gross, the most that is lost, and their words.
+//! Tests of the rows of those who lose, as tables: which they are, the row from any gross, the most that is lost, and their words.
 #![tactic(auto)]
 
 #[cfg(test)]

@@ -1,5 +1,5 @@
-// The most that is lost in a range: the numbers are what trying every pair of grosses gives.
-use crate::rows::*;
+//! The most that is lost in a row: the numbers are what trying every pair of grosses gives.
+use crate::one_row::*;
 use book::Book;
 use losses::{most_lost, words_for};
 use samples::{MOST, book_with, family};
@@ -7,16 +7,16 @@ use std::process::Abort;
 use std::test::Fail;
 use wire::RuleKind;
 
-// In each range so much is lost at the most.
+/// In each row so much is lost at the most.
 fn lost(rt: &impl Abort, book: &Book, expected: &[(u32, u32, u64)]) {
     assert!(rt; words_for(book) <= WORDS);
     let mut scratch = [BEFORE; WORDS];
     for (first, last, most) in expected {
-        assert_eq!(rt; most_lost(book, &mut scratch, range(*first, *last)), *most);
+        assert_eq!(rt; most_lost(book, &mut scratch, row(*first, *last)), *most);
     }
 }
 
-// Of 1,499 there is 1,599.50 left, and of 1,500 only 1,400: nobody loses more. Of 1,300 there is 1,500.
+/// Of 1,499 there is 1,599.50 left, and of 1,500 only 1,400: nobody loses more. Of 1,300 there is 1,500.
 #[test]
 fn a_family(rt: HostRuntime) -> Result<(), Fail> {
     let book = book_with(5_000, &family())?;
@@ -35,7 +35,7 @@ fn a_family(rt: HostRuntime) -> Result<(), Fail> {
     Ok(())
 }
 
-// One row over a rising segment, one that falls, a level one and one that falls again: whoever earns 10 loses most.
+/// One row over a rising segment, one that falls, a level one and one that falls again: whoever earns 10 loses most.
 #[test]
 fn over_segments(rt: HostRuntime) -> Result<(), Fail> {
     let rules = [
@@ -57,7 +57,7 @@ fn over_segments(rt: HostRuntime) -> Result<(), Fail> {
     Ok(())
 }
 
-// The last on a falling segment, 19, loses nothing if more is left of all beyond.
+/// The last on a falling segment, 19, loses nothing if more is left of all beyond.
 #[test]
 fn the_last_that_falls(rt: HostRuntime) -> Result<(), Fail> {
     let falls = [
@@ -80,7 +80,7 @@ fn the_last_that_falls(rt: HostRuntime) -> Result<(), Fail> {
     Ok(())
 }
 
-// Of 1 a unit is left, and of 10 ten less than nothing. At the most, 64 rules take 128 units of each.
+/// Of 1 a unit is left, and of 10 ten less than nothing. At the most, 64 rules take 128 units of each.
 #[test]
 fn below_nothing(rt: HostRuntime) -> Result<(), Fail> {
     let rules = [

@@ -1,5 +1,5 @@
-// Which grosses lose: most of these books would get another answer in a wrong way that is easily taken.
-use crate::rows::*;
+//! Which grosses lose: most of these books would get another answer in a wrong way that is easily taken.
+use crate::one_row::*;
 use samples::{MOST, book_with, family};
 use std::test::Fail;
 use wire::RuleKind;
@@ -17,7 +17,7 @@ fn nobody(rt: HostRuntime) -> Result<(), Fail> {
     Ok(())
 }
 
-// By itself neither of these takes more than all; together they do.
+/// By itself neither of these takes more than all; together they do.
 #[test]
 fn two_rules_together(rt: HostRuntime) -> Result<(), Fail> {
     let rules = [
@@ -31,25 +31,25 @@ fn two_rules_together(rt: HostRuntime) -> Result<(), Fail> {
     Ok(())
 }
 
-// Whoever earns 960 has more with one unit more, and 20 less with 100 more.
+/// Whoever earns 960 has more with one unit more, and 20 less with 100 more.
 #[test]
 fn not_by_the_next_unit(rt: HostRuntime) -> Result<(), Fail> {
     let rules = [RuleKind::Take.rule([1_000, 1_060, 20_000])];
     let book = book_with(2_000, &rules)?;
     found(&rt, &book, &[(941, 1_059)]);
-    told(&rt, &book, &[(960, Some(range(960, 1_059)))]);
+    told(&rt, &book, &[(960, Some(row(960, 1_059)))]);
     Ok(())
 }
 
-// A sum of 3 is taken from 10 on, and no more from 20 on. Of 9 as much is left as of 12, and of 10 and 11 less.
+/// A sum of 3 is taken from 10 on, and no more from 20 on. Of 9 as much is left as of 12, and of 10 and 11 less.
 #[test]
 fn from_the_border_on(rt: HostRuntime) -> Result<(), Fail> {
     let book = book_with(30, &[RuleKind::TakeSum.rule([10, 20, 3])])?;
     found(&rt, &book, &[(8, 9)]);
     let rows = [
-        (0, Some(range(8, 9))),
-        (8, Some(range(8, 9))),
-        (9, Some(range(9, 9))),
+        (0, Some(row(8, 9))),
+        (8, Some(row(8, 9))),
+        (9, Some(row(9, 9))),
         (10, None),
         (30, None),
     ];
@@ -61,8 +61,8 @@ fn from_the_border_on(rt: HostRuntime) -> Result<(), Fail> {
     Ok(())
 }
 
-// Of 6 a ten-thousandth less is left than of 5: 4.9999 of 5, and in the second book 5 of 5.0001, which no rounding to cents tells
-// apart.
+/// Of 6 a ten-thousandth less is left than of 5: 4.9999 of 5, and in the second book 5 of 5.0001, which no rounding to cents tells
+/// apart.
 #[test]
 fn not_rounded(rt: HostRuntime) -> Result<(), Fail> {
     let book = book_with(6, &[RuleKind::Take.rule([5, 6, 10_001])])?;
@@ -78,7 +78,7 @@ fn not_rounded(rt: HostRuntime) -> Result<(), Fail> {
     Ok(())
 }
 
-// The fade takes nine tenths of each unit between 5 and 15, and the tax two more.
+/// The fade takes nine tenths of each unit between 5 and 15, and the tax two more.
 #[test]
 fn fade_and_tax(rt: HostRuntime) -> Result<(), Fail> {
     let rules = [
@@ -95,9 +95,9 @@ fn a_family(rt: HostRuntime) -> Result<(), Fail> {
     let book = book_with(5_000, &family())?;
     found(&rt, &book, &[(1_101, 1_499)]);
     let rows = [
-        (1_100, Some(range(1_101, 1_499))),
-        (1_300, Some(range(1_300, 1_499))),
-        (1_499, Some(range(1_499, 1_499))),
+        (1_100, Some(row(1_101, 1_499))),
+        (1_300, Some(row(1_300, 1_499))),
+        (1_499, Some(row(1_499, 1_499))),
         (1_500, None),
     ];
     told(&rt, &book, &rows);

@@ -1,4 +1,4 @@
-// One entry of the table: a segment, and the lowest net beyond it; and its words, both ways.
+//! One entry of the table: a segment, and the lowest net beyond it; and its words, both ways.
 ghost use Rattle.std.specs.Prelude.{◌≡◌, ◌<◌};
 ghost use Rattle.raise.specs.Lowest.{lowest_with};
 ghost use Rattle.segments.specs.Segments.{Sized};
@@ -6,10 +6,10 @@ ghost use Rattle.lowest.specs.Entries.{entry_words, read_entry, ReadsBack};
 
 use segments::Segment;
 
-// How many words an entry has.
+/// How many words an entry has.
 pub const ENTRY_WORDS: usize = 6;
 
-// A segment, and the least net of all grosses beyond it, up to the bound; none for the last segment, beyond which there are none.
+/// A segment, and the least net of all grosses beyond it, up to the bound; none for the last segment, beyond which there are none.
 #[derive(Clone, Copy, Debug, PartialEq, Eq)]
 pub struct Entry {
     pub segment: Segment,
@@ -17,7 +17,7 @@ pub struct Entry {
 }
 
 impl Entry {
-    // Its words. A signed number is the word that has its bits.
+    /// Its words. A signed number is the word that has its bits.
     pub(crate) fn words(self) -> [u64; ENTRY_WORDS]
         ensures { result ≡ entry_words self }
     {
@@ -41,7 +41,7 @@ impl Entry {
         ]
     }
 
-    // The least net of the segment and of all grosses beyond it.
+    /// The least net of the segment and of all grosses beyond it.
     pub(crate) fn lowest(self) -> i64
         requires sized { Sized self.segment }
         requires some { self.segment.from < self.segment.to }
@@ -58,7 +58,7 @@ impl Entry {
     }
 }
 
-// The entry that words hold, if they hold one. What was written is read back.
+/// The entry that words hold, if they hold one. What was written is read back.
 pub fn read_entry(words: &[u64; ENTRY_WORDS]) -> Option<Entry>
     ensures entry { result ≡ read_entry words.now }
     ensures back { ReadsBack }

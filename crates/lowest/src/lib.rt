@@ -1,5 +1,5 @@
-// From the bound down: each segment with the lowest net of all grosses beyond it, up to the bound. This crate owns the table
-// of those segments, its entries as words, and the walk that writes it into a part of the lent memory.
+//! From the bound down: each segment with the lowest net of all grosses beyond it, up to the bound. This crate owns the table
+//! of those segments, its entries as words, and the walk that writes it into a part of the lent memory.
 #![tactic(auto)]
 
 mod entries;

@@ -1,4 +1,4 @@
-// The walk from the bound down, segment by segment, that writes the table.
+//! The walk from the bound down, segment by segment, that writes the table.
 ghost use Rattle.std.specs.Prelude.{◌≡◌, ◌+◌, ◌*◌, ◌≤◌, ◌++◌, length, take, drop};
 ghost use Rattle.std.specs.List.{AllByRecursion};
 ghost use Rattle.lowest.specs.Entries.{width, entry_words, table_words, Fits};
@@ -6,9 +6,9 @@ ghost use Rattle.lowest.specs.Table.{table, most_entries, with_table, IsTable, S
 
 use crate::entries::{ENTRY_WORDS, Entry};
 use book::Book;
-use hinges::{Left, hinges_of};
+use hinges::{Sweep, hinges_of};
 
-// The i-th entry of a part, written.
+/// The i-th entry of a part, written.
 fn put_entry(part: &mut [u64], i: usize, entry: Entry)
     requires { width * i + width ≤ length part.old }
     ensures { part.new ≡ take (width * i) part.old ++ (entry_words entry ++ drop (width * i + width) part.old) }
@@ -17,7 +17,7 @@ fn put_entry(part: &mut [u64], i: usize, entry: Entry)
     part[at..at + ENTRY_WORDS].copy_from_slice(&entry.words());
 }
 
-// The table from the beginning of the part on, and how many entries it has.
+/// The table from the beginning of the part on, and how many entries it has.
 #[tactic(auto, using(crate::proofs::Walk::begins))]
 fn write_entries(part: &mut [u64], book: &Book) -> usize
     requires { width * most_entries book.now.rules ≤ length part.old }
@@ -30,10 +30,10 @@ fn write_entries(part: &mut [u64], book: &Book) -> usize
     let hinges = in_order.as_slice();
     let mut count = 0;
     let mut last = book.bound();
-    let mut left = Left::up_to(hinges, last);
+    let mut sweep = Sweep::up_to(hinges, last);
     let mut lowest_above = None;
     'breakpoints: loop {
-        let segment = left.segment(hinges, last);
+        let segment = sweep.segment(hinges, last);
         let entry = Entry {
             segment,
             lowest_above,
@@ -45,21 +45,21 @@ fn write_entries(part: &mut [u64], book: &Book) -> usize
         }
         lowest_above = Some(entry.lowest());
         last = segment.from - 1;
-        left = left.back_to(segment);
-        // The hinges at the breakpoint are undone one by one; once none is left there, the next segment ends before it.
+        sweep = sweep.back_to(segment);
+        // The hinges at the breakpoint are undone one by one; once all there are, the next segment ends before it.
         'hinges: loop {
-            let Some(fewer) = left.without_last(hinges, segment.from) else {
-                left = left.one_below(hinges, segment.from);
+            let Some(fewer) = sweep.without_last(hinges, segment.from) else {
+                sweep = sweep.one_below(hinges, segment.from);
                 continue 'breakpoints;
             };
-            left = fewer;
+            sweep = fewer;
             continue 'hinges;
         }
     }
     count
 }
 
-// How many segments a book has at most, and so how many entries its table has.
+/// How many segments a book has at most, and so how many entries its table has.
 pub fn most_entries(book: &Book) -> usize
     ensures value { result ≡ most_entries book.now.rules }
     ensures few { result ≤ 129 }
@@ -67,7 +67,7 @@ pub fn most_entries(book: &Book) -> usize
     2 * book.rules().len() + 1
 }
 
-// How many words the table of a book asks for at most.
+/// How many words the table of a book asks for at most.
 pub fn words_for(book: &Book) -> usize
     ensures value { result ≡ width * most_entries book.now.rules }
     ensures few { result ≤ 774 }
@@ -75,9 +75,9 @@ pub fn words_for(book: &Book) -> usize
     ENTRY_WORDS * most_entries(book)
 }
 
-// The table of the book, in a part of the words that begins at the `at`-th, and how many entries it has: the segments of the book
-// from the last down to the first, each with the lowest net of all grosses beyond it, up to the bound. By it alone one can say of
-// every gross up to the bound whether it loses. The words outside the entries stay.
+/// The table of the book, in a part of the words that begins at the `at`-th, and how many entries it has: the segments of the book
+/// from the last down to the first, each with the lowest net of all grosses beyond it, up to the bound. By it alone one can say of
+/// every gross up to the bound whether it loses. The words outside the entries stay.
 #[tactic(auto, using(crate::proofs::Words::stored_at, crate::proofs::Walk::few_in, crate::proofs::Tells::table_tells))]
 pub fn write_table(words: &mut [u64], at: usize, book: &Book) -> usize
     requires { at + width * most_entries book.now.rules ≤ length words.old }

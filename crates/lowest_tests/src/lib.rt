@@ -1,5 +1,5 @@
-// Tests of the table of segments, as tables: its entries from the last segment down, where the lowest beyond lies, and the words
-// around it.
+//! Tests of the table of segments, as tables: its entries from the last segment down, where the lowest beyond lies, and the words
+//! around it.
 #![tactic(auto)]
 
 #[cfg(test)]

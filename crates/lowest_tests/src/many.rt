@@ -1,4 +1,4 @@
-// As many rules as a book can hold.
+//! As many rules as a book can hold.
 ghost use Rattle.std.specs.Prelude.{◌<◌};
 
 use crate::tables::*;
@@ -7,8 +7,8 @@ use samples::{MOST, book_with};
 use std::test::Fail;
 use wire::RuleKind;
 
-// Each rule begins and ends at a breakpoint of its own: 129 segments, and what is lowest beyond lies on the next segment or on the
-// one after that.
+/// Each rule begins and ends at a breakpoint of its own: 129 segments, and what is lowest beyond lies on the next segment or on the
+/// one after that.
 #[test]
 fn as_many_segments(rt: HostRuntime) -> Result<(), Fail> {
     let mut rules = [RuleKind::GiveSum.rule([1, 2, 0]); 64];
@@ -25,7 +25,7 @@ fn as_many_segments(rt: HostRuntime) -> Result<(), Fail> {
     Ok(())
 }
 
-// The segment before the i-th rule's, and the rule's own.
+/// The segment before the i-th rule's, and the rule's own.
 fn two_segments(i: u32) -> (Entry, Entry)
     requires { i < 64 }
 {
@@ -39,7 +39,7 @@ fn two_segments(i: u32) -> (Entry, Entry)
     )
 }
 
-// All rules hold at once and take most, and give most: the least and the greatest numbers that there can be.
+/// All rules hold at once and take most, and give most: the least and the greatest numbers that there can be.
 #[test]
 fn all_at_once(rt: HostRuntime) -> Result<(), Fail> {
     let least = 10_000_000_000_000 - 1_280_000_000_000_000;

@@ -1,4 +1,4 @@
-// Where the lowest beyond a segment lies.
+//! Where the lowest beyond a segment lies.
 use crate::tables::*;
 use samples::{MOST, book_with, family};
 use std::test::Fail;
@@ -16,7 +16,7 @@ fn one_segment(rt: HostRuntime) -> Result<(), Fail> {
     Ok(())
 }
 
-// Between 10 and 20 nothing more is left, so all of these have the same.
+/// Between 10 and 20 nothing more is left, so all of these have the same.
 #[test]
 fn level(rt: HostRuntime) -> Result<(), Fail> {
     let rules = [RuleKind::Take.rule([10, 20, 10_000])];
@@ -30,7 +30,7 @@ fn level(rt: HostRuntime) -> Result<(), Fail> {
     Ok(())
 }
 
-// Net falls to 0 at 20 and at 40, as it is at 0.
+/// Net falls to 0 at 20 and at 40, as it is at 0.
 #[test]
 fn as_low_at_several(rt: HostRuntime) -> Result<(), Fail> {
     let rules = [
@@ -66,7 +66,7 @@ fn at_the_bound(rt: HostRuntime) -> Result<(), Fail> {
     Ok(())
 }
 
-// A sum of 12 begins at 15.
+/// A sum of 12 begins at 15.
 #[test]
 fn just_above(rt: HostRuntime) -> Result<(), Fail> {
     let rules = [RuleKind::TakeSum.rule([15, MOST, 12])];
@@ -79,7 +79,7 @@ fn just_above(rt: HostRuntime) -> Result<(), Fail> {
     Ok(())
 }
 
-// Above 9, net is lowest at 19, the last of a segment, since 50 are given from 20 on.
+/// Above 9, net is lowest at 19, the last of a segment, since 50 are given from 20 on.
 #[test]
 fn at_the_last_of_a_segment(rt: HostRuntime) -> Result<(), Fail> {
     let rules = [
@@ -96,7 +96,7 @@ fn at_the_last_of_a_segment(rt: HostRuntime) -> Result<(), Fail> {
     Ok(())
 }
 
-// Net falls, rises and falls, each time less far.
+/// Net falls, rises and falls, each time less far.
 #[test]
 fn falling_and_rising(rt: HostRuntime) -> Result<(), Fail> {
     let rules = [
@@ -134,7 +134,7 @@ fn a_family(rt: HostRuntime) -> Result<(), Fail> {
     Ok(())
 }
 
-// One fade goes on for good, another up to more than 2^32.
+/// One fade goes on for good, another up to more than 2^32.
 #[test]
 fn fades_that_last(rt: HostRuntime) -> Result<(), Fail> {
     let rules = [

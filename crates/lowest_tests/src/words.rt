@@ -1,14 +1,14 @@
-// Tables and entries as words.
+//! Tables and entries as words.
 use crate::tables::*;
 use lowest::{read_entry, words_for, write_table};
 use samples::{MOST, book_with};
 use std::test::Fail;
 use wire::RuleKind;
 
-// 2^64 - 30,000.
+/// 2^64 - 30,000.
 const LESS_THAN_NOTHING: u64 = 18_446_744_073_709_521_616;
 
-// A sum of 5 begins at 2. There is room for three entries and no more, and the two that there are begin at the first word.
+/// A sum of 5 begins at 2. There is room for three entries and no more, and the two that there are begin at the first word.
 #[test]
 fn two_entries(rt: HostRuntime) -> Result<(), Fail> {
     let book = book_with(3, &[RuleKind::TakeSum.rule([2, MOST, 5])])?;

@@ -9,7 +9,7 @@ pub mod Lines
 pub mod Straight
 pub mod Look
 pub mod Lows
-pub mod Ranges
+pub mod AllRows
 pub mod Trial
 pub mod Picks
 pub mod OtherKinds

@@ -60,5 +60,5 @@ module _ (l : Limits) (rs : List Rule) (g : ℕ) where
   begins zero e = inl (rw e refl, λ k lo hi. none_that lose (fuel g) g e k lo (omega arith))
   begins (suc first) e = ends first _ e refl
 
-pub rows : (l : Limits) (rs : List Rule) (g : ℕ) → RowTold rs l.bound g (told l rs (next_row g))
-rows l rs g = begins l rs g _ refl
+pub row_stands : (l : Limits) (rs : List Rule) (g : ℕ) → RowTold rs l.bound g (told l rs (next_row g))
+row_stands l rs g = begins l rs g _ refl

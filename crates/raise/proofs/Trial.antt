@@ -3,9 +3,9 @@ use Rattle.std.proofs.Common.{◌≡◌, ℕ, zero, suc, ◌<◌, ◌≤◌, Boo
 use mathlib.Core.Bool.{beq}
 use Rattle.std.proofs.lemmas.Bool.{and_parts, cases_eq, both_ways}
 use Rattle.raise.specs.Rules.{Rule, plus, minus, all_plus, all_minus, some_less, loses}
-use Rattle.raise.specs.Ranges.{lies_if}
+use Rattle.raise.specs.Rows.{lies_if}
 use Rattle.raise.specs.Worked.{OnlyRow}
-use Rattle.raise.specs.declared.LosingRange.{LosingRange}
+use Rattle.raise.specs.declared.LosingRow.{LosingRow}
 
 equal : (x y : Bool) → beq x y ≡ true → x ≡ y
 equal true true e = refl
@@ -33,5 +33,5 @@ unfoldable pub computed : Bool
 unfolding agree some_less all_plus all_minus plus minus
 computed = true
 
-pub only_row : (rs : List Rule) (b : ℕ) (row : Option LosingRange) → agree (loses rs b) (lies_if row) (suc b) ≡ true → OnlyRow rs b row
+pub only_row : (rs : List Rule) (b : ℕ) (row : Option LosingRow) → agree (loses rs b) (lies_if row) (suc b) ≡ true → OnlyRow rs b row
 only_row rs b row e = record { just_these = tried (loses rs b) (lies_if row) b e }

@@ -58,7 +58,7 @@ SafeTold rs b g (suc h) = (g < h) × (h ≤ b) × SafeOn rs b g h × ((j : ℕ) 
 -- ---- rows
 
 -- the first row from g on: all of it loses, nobody before it from g on does, and the next after it doesn't
-pub record LosingRow (rs : List Rule) (b g first last : ℕ) : Type 0 where
+pub record FirstRow (rs : List Rule) (b g first last : ℕ) : Type 0 where
   pub from_asked : g ≤ first
   pub in_order : first ≤ last
   pub below_bound : last < b
@@ -70,7 +70,7 @@ pub record LosingRow (rs : List Rule) (b g first last : ℕ) : Type 0 where
 abbrev pub RowTold : List Rule → ℕ → ℕ → Answer → Type 0
 RowTold rs b g told =
     ((told ≡ two 0 0) × ((k : ℕ) → g ≤ k → k ≤ b → loses rs b k ≡ false)) ⊎
-    ((first : ℕ) × (last : ℕ) × (told ≡ two (suc first) (suc last)) × LosingRow rs b g first last)
+    ((first : ℕ) × (last : ℕ) × (told ≡ two (suc first) (suc last)) × FirstRow rs b g first last)
 
 -- ---- books that answer alike
 

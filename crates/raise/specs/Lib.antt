@@ -3,7 +3,7 @@ pub mod Calls
 pub mod Promise
 pub mod Net
 pub mod Lowest
-pub mod Ranges
+pub mod Rows
 pub mod Laws
 pub mod Worked
 pub mod Told

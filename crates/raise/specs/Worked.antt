@@ -1,11 +1,11 @@
 -- Small books, as the worked examples have them. Definitions only: nothing is assumed.
 use Rattle.std.specs.Prelude.{◌≡◌, ℕ, ◌≤◌, List, [], ◌∷◌, Option}
-use Rattle.raise.specs.declared.LosingRange.{LosingRange}
-use Rattle.raise.specs.Ranges.{lies_if}
+use Rattle.raise.specs.declared.LosingRow.{LosingRow}
+use Rattle.raise.specs.Rows.{lies_if}
 use Rattle.raise.specs.Rules.{Rule, takes, takes_sum, fades, loses}
 
 -- of all earnings up to b just those of the row lose
-pub record OnlyRow (rs : List Rule) (b : ℕ) (row : Option LosingRange) : Type 0 where
+pub record OnlyRow (rs : List Rule) (b : ℕ) (row : Option LosingRow) : Type 0 where
   pub just_these : (g : ℕ) → g ≤ b → loses rs b g ≡ lies_if row g
 
 -- take 0 to 10, 10,000: all of each unit is taken, and no more

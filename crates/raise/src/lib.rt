@@ -1,6 +1,6 @@
-// Raises: at which earnings somebody loses by earning more. This crate owns the definitions (specs/): rules, what they
-// leave of an earning, who loses, calls and their answers, and the promises. Its functions are the scale of all amounts,
-// the laws of the definitions, and small worked books: what these claim is their contract.
+//! Raises: at which earnings somebody loses by earning more. This crate owns the definitions (specs/): rules, what they
+//! leave of an earning, who loses, calls and their answers, and the promises. Its functions are the scale of all amounts,
+//! the laws of the definitions, and small worked books: what these claim is their contract.
 #![tactic(auto)]
 
 pub mod laws;
@@ -8,14 +8,14 @@ pub mod worked;
 
 ghost use Rattle.std.specs.Prelude.{◌≡◌, ◌*◌};
 
-// Earnings that all lose by earning more, from the first to the last.
+/// Earnings that all lose by earning more, from the first to the last.
 #[derive(Clone, Copy, Debug, PartialEq, Eq)]
-pub struct LosingRange {
+pub struct LosingRow {
     pub first: u32,
     pub last: u32,
 }
 
-// Whole units in ten-thousandths, as all amounts are.
+/// Whole units in ten-thousandths, as all amounts are.
 pub fn ten_thousandths(units: u32) -> u64
     ensures { result ≡ 10000 * units }
 {

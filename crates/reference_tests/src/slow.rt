@@ -1,4 +1,4 @@
-// Books of rules of all kinds, and what is told of each of their grosses.
+//! Books of rules of all kinds, and what is told of each of their grosses.
 use book::Book;
 use losses::{row_from, words_for};
 use safety::safe_from;
@@ -6,10 +6,10 @@ use samples::{book_with, rules_of_all_kinds};
 use std::process::Abort;
 use std::test::Fail;
 
-// Words for the rows of nine rules.
+/// Words for the rows of nine rules.
 const WORDS: usize = 152;
 
-// What is told of a gross is what is found by trying every earning.
+/// What is told of a gross is what is found by trying every earning.
 fn gross_as_tried(rt: &impl Abort, book: &Book, scratch: &mut [u64; WORDS], gross: u32) {
     assert!(rt; words_for(book) <= WORDS);
     let row = row_from(book, scratch, gross);
@@ -17,7 +17,7 @@ fn gross_as_tried(rt: &impl Abort, book: &Book, scratch: &mut [u64; WORDS], gros
     assert_eq!(rt; safe_from(book, gross), reference::safe_from(book, gross));
 }
 
-// That is so of each gross up to the bound, and of the next above it.
+/// That is so of each gross up to the bound, and of the next above it.
 fn as_tried(rt: &impl Abort, book: &Book) {
     let mut scratch = [0xb0b0_b0b0_b0b0_b0b0; WORDS];
     for gross in 0..=book.bound() + 1 {
@@ -25,7 +25,7 @@ fn as_tried(rt: &impl Abort, book: &Book) {
     }
 }
 
-// Some of the rules, one behind the other.
+/// Some of the rules, one behind the other.
 #[test]
 fn runs_of_rules(rt: HostRuntime) -> Result<(), Fail> {
     let rules = rules_of_all_kinds();
@@ -38,7 +38,7 @@ fn runs_of_rules(rt: HostRuntime) -> Result<(), Fail> {
     Ok(())
 }
 
-// Two of them, up to each of some bounds.
+/// Two of them, up to each of some bounds.
 #[test]
 fn pairs_of_rules(rt: HostRuntime) -> Result<(), Fail> {
     for first in rules_of_all_kinds() {

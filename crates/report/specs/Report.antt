@@ -1,9 +1,9 @@
 -- What is told of a file of rules and of earnings: the whole text, or why there is none. Definitions only: nothing is assumed.
 use Rattle.std.specs.Prelude.{ℕ, zero, suc, List, [], ◌∷◌, ◌++◌, Option, Some, None, Ok, Err, Result, codes, decimal, ◌==◌, nat_le}
 use Rattle.std.specs.List.{flat_map}
-use Rattle.raise.specs.declared.LosingRange.{LosingRange}
+use Rattle.raise.specs.declared.LosingRow.{LosingRow}
 use Rattle.raise.specs.Rules.{pick, Rule, all_plus, all_minus, loses, safe_from}
-use Rattle.raise.specs.Ranges.{losing_ranges}
+use Rattle.raise.specs.Rows.{losing_rows}
 use Rattle.losses.specs.Most.{most_lost}
 use Rattle.text.specs.declared.prospects.Outlook.{Outlook}
 use Rattle.text.specs.declared.prospects.Outlook.TheVariants.{NeverLoses, Loses}
@@ -14,17 +14,17 @@ use Rattle.report.specs.Reading.{Draft, Misfit, has_return, draft}
 
 -- ---- rows
 
-abbrev pub losing_row_line : List Rule → ℕ → LosingRange → List ℕ
+abbrev pub losing_row_line : List Rule → ℕ → LosingRow → List ℕ
 losing_row_line rs b r = losing_row r.first r.last (most_lost rs b r) ++ codes "\n"
 
 -- a line for each row, or "none"
-abbrev pub rows_or_none : List Rule → ℕ → List LosingRange → List ℕ
+abbrev pub rows_or_none : List Rule → ℕ → List LosingRow → List ℕ
 rows_or_none rs b [] = codes "none\n"
-rows_or_none rs b (r ∷ ranges) = flat_map (losing_row_line rs b) (r ∷ ranges)
+rows_or_none rs b (r ∷ rows) = flat_map (losing_row_line rs b) (r ∷ rows)
 
 -- those of all who lose, up to b, from the first to the last
 abbrev pub rows_text : List Rule → ℕ → List ℕ
-rows_text rs b = rows_or_none rs b (losing_ranges rs b)
+rows_text rs b = rows_or_none rs b (losing_rows rs b)
 
 -- ---- earnings
 

@@ -1,4 +1,4 @@
-// What more would do at the earnings that are named.
+//! What more would do at the earnings that are named.
 ghost use Rattle.std.specs.Prelude.{◌≡◌, ◌*◌, ◌≤◌, ◌++◌, map, length, string_bytes, OnOk};
 ghost use Rattle.std.specs.List.{flat_map};
 ghost use Rattle.lowest.specs.Entries.{width as entry_width};
@@ -9,18 +9,18 @@ ghost use Rattle.report.specs.Drafts.{shown_if};
 
 use book::Book;
 use losses::most_lost;
-use raise::LosingRange;
+use raise::LosingRow;
 use safety::safe_from;
 use std::alloc::AllocError;
 use text::{Amount, Outlook, Prospect, read_number};
 
-// Somebody loses by earning more just if the most that is lost there is more than nothing.
+/// Somebody loses by earning more just if the most that is lost there is more than nothing.
 fn outlook(book: &Book, scratch: &mut [u64], gross: u32) -> Outlook
     requires { entry_width * most_entries book.now.rules ≤ length scratch.old }
     ensures outlook { result ≡ outlook book.now.rules book.now.bound gross }
     ensures room { length scratch.new ≡ length scratch.old }
 {
-    let alone = LosingRange {
+    let alone = LosingRow {
         first: gross,
         last: gross,
     };
@@ -55,7 +55,7 @@ fn write_prospect(
     out.push_str(&line)
 }
 
-// The earning that a word is, if it is one up to the bound.
+/// The earning that a word is, if it is one up to the bound.
 fn read_earning(book: &Book, word: &str) -> Option<u32>
     ensures { result ≡ up_to book.now.bound (number_of word.now) }
 {
@@ -63,7 +63,7 @@ fn read_earning(book: &Book, word: &str) -> Option<u32>
     (gross <= book.bound()).then_some(gross)
 }
 
-// The first word that is no earning up to the bound.
+/// The first word that is no earning up to the bound.
 #[tactic(auto, unfolding(crate::specs::Report::no_earning))]
 pub(crate) fn no_earning<'a>(book: &Book, words: &'a [String]) -> Option<&'a str>
     ensures { shown_if result ≡ no_earning book.now.bound (map string_bytes words.now) }
@@ -76,7 +76,7 @@ pub(crate) fn no_earning<'a>(book: &Book, words: &'a [String]) -> Option<&'a str
     None
 }
 
-// A line for each of the words that is an earning up to the bound.
+/// A line for each of the words that is an earning up to the bound.
 pub(crate) fn write_prospects(
     book: &Book,
     scratch: &mut [u64],

@@ -1,4 +1,4 @@
-// A file of rules as text, read into a book.
+//! A file of rules as text, read into a book.
 ghost use Rattle.std.specs.Prelude.{◌≡◌, ◌≤◌, length, IfOk};
 ghost use Rattle.std.specs.Str.Iter.{lines_rest};
 ghost use Rattle.book.specs.Held.{asked};
@@ -12,13 +12,13 @@ use std::str::Lines;
 use text::{RuleLine, read_line};
 use wire::{Answer, Refusal, Rule, lay_bytes};
 
-// The memory that is lent is for so many rules.
+/// The memory that is lent is for so many rules.
 pub(crate) const RULES: u32 = 16;
 
-// The bound of a file that names none.
+/// The bound of a file that names none.
 const BOUND: u32 = 999_999_999;
 
-// A line that was refused: which it is, from 1 on, what it is, and why.
+/// A line that was refused: which it is, from 1 on, what it is, and why.
 #[derive(Clone, Copy)]
 pub(crate) struct Misfit<'a> {
     pub(crate) line: usize,
@@ -26,7 +26,7 @@ pub(crate) struct Misfit<'a> {
     pub(crate) refusal: Refusal,
 }
 
-// A book without rules, with the bound of a file that names none.
+/// A book without rules, with the bound of a file that names none.
 #[tactic(auto, using(crate::proofs::Lays::begun))]
 fn open_blank(words: &mut [u64])
     requires { asked 16 ≤ length words.old }
@@ -38,7 +38,7 @@ fn open_blank(words: &mut [u64])
     };
 }
 
-// The book opened anew, with a bound of its own: no other may come after it.
+/// The book opened anew, with a bound of its own: no other may come after it.
 fn bound_at(words: &mut [u64], bound: u32) -> Result<bool, Refusal>
     ensures { Bounded words.old words.new bound result }
 {
@@ -48,7 +48,7 @@ fn bound_at(words: &mut [u64], bound: u32) -> Result<bool, Refusal>
     }
 }
 
-// A rule more: no bound may come after it.
+/// A rule more: no bound may come after it.
 fn lay(words: &mut [u64], rule: Rule) -> Result<bool, Refusal>
     ensures { Laid words.old words.new rule result }
 {
@@ -58,7 +58,7 @@ fn lay(words: &mut [u64], rule: Rule) -> Result<bool, Refusal>
     }
 }
 
-// Is there a carriage return in the line? Before its newline there may be one, which is no part of it.
+/// Is there a carriage return in the line? Before its newline there may be one, which is no part of it.
 pub(crate) fn has_return(line: &str) -> bool
     ensures { result ≡ has_return line.now }
 {
@@ -70,7 +70,7 @@ pub(crate) fn has_return(line: &str) -> bool
     false
 }
 
-// What a line says.
+/// What a line says.
 fn read_said(line: &str) -> Option<RuleLine>
     ensures { said result ≡ says_of line.now }
 {
@@ -80,7 +80,7 @@ fn read_said(line: &str) -> Option<RuleLine>
     read_line(line.as_bytes())
 }
 
-// One line more in the book that the words hold: is it still before the bound and the first rule?
+/// One line more in the book that the words hold: is it still before the bound and the first rule?
 fn add_line(words: &mut [u64], fresh: bool, line: &str) -> Result<bool, Refusal>
     ensures { Added words.old words.new fresh (says_of line.now) result }
 {
@@ -95,7 +95,7 @@ fn add_line(words: &mut [u64], fresh: bool, line: &str) -> Result<bool, Refusal>
     }
 }
 
-// Some editors put a mark before a text; it says nothing.
+/// Some editors put a mark before a text; it says nothing.
 fn without_mark(text: &str) -> &str
     ensures { result.now ≡ without_mark text.now }
 {
@@ -105,14 +105,14 @@ fn without_mark(text: &str) -> &str
     }
 }
 
-// All lines of a file, the last too where no newline ends it.
+/// All lines of a file, the last too where no newline ends it.
 fn lines_of(text: &str) -> Lines<'_>
     ensures { lines_rest result ≡ without_mark text.now }
 {
     without_mark(text).lines()
 }
 
-// The lines of a file, one by one; or the first that doesn't fit.
+/// The lines of a file, one by one; or the first that doesn't fit.
 fn read_lines<'a>(words: &mut [u64], text: &'a str) -> Result<(), Misfit<'a>>
     requires { asked 16 ≤ length words.old }
     ensures { Drafted (draft text.now) words.new result }
@@ -136,7 +136,7 @@ fn read_lines<'a>(words: &mut [u64], text: &'a str) -> Result<(), Misfit<'a>>
     Ok(())
 }
 
-// The book that a file makes, held by the words from then on; or the first line that doesn't fit.
+/// The book that a file makes, held by the words from then on; or the first line that doesn't fit.
 pub(crate) fn read_file<'a>(words: &mut [u64], text: &'a str) -> Result<Book, Misfit<'a>>
     requires { asked 16 ≤ length words.old }
     ensures file { Filed (draft text.now) result }

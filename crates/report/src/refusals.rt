@@ -1,4 +1,4 @@
-// What is said of a line, or of an earning, that doesn't fit.
+//! What is said of a line, or of an earning, that doesn't fit.
 ghost use Rattle.std.specs.Prelude.{◌≡◌, string_bytes, IfOk};
 ghost use Rattle.text.specs.RuleLines.{line_says};
 ghost use Rattle.wire.specs.Meaning.{refusal_number};
@@ -10,7 +10,7 @@ use std::alloc::{AllocError, Global};
 use text::{RuleLine, read_line};
 use wire::Refusal;
 
-// What was expected of a line that can't stand where it does.
+/// What was expected of a line that can't stand where it does.
 fn forms(line: &str) -> &'static str
     ensures { result.now ≡ forms (line_says line.now) }
 {
@@ -22,7 +22,7 @@ fn forms(line: &str) -> &'static str
 at most two decimals before %"
 }
 
-// What was expected where a line was refused.
+/// What was expected where a line was refused.
 #[tactic(auto, unfolding(crate::specs::Report::expected))]
 fn expected(refusal: Refusal, line: &str) -> &'static str
     ensures { result.now ≡ expected (refusal_number refusal) line.now }
@@ -38,7 +38,7 @@ fn expected(refusal: Refusal, line: &str) -> &'static str
     }
 }
 
-// The message on a line that was refused.
+/// The message on a line that was refused.
 pub(crate) fn line_refused(heap: Global, misfit: Misfit<'_>) -> Result<String, AllocError>
     ensures { IfOk result (λ text. string_bytes text ≡ misfit_text (misfit_meant misfit.entry)) }
 {
@@ -52,7 +52,7 @@ pub(crate) fn line_refused(heap: Global, misfit: Misfit<'_>) -> Result<String, A
     format!(in heap; "cliffs: refused {number} at line {line}: {text}\nexpected {expected}\n")
 }
 
-// The message on a word that is no earning up to the bound.
+/// The message on a word that is no earning up to the bound.
 pub(crate) fn earning_refused(heap: Global, word: &str, bound: u32) -> Result<String, AllocError>
     ensures { IfOk result (λ text. string_bytes text ≡ no_earning_text bound word.now) }
 {

@@ -1,9 +1,9 @@
-// A file and earnings, and what must be printed.
+//! A file and earnings, and what must be printed.
 use report::{Outcome, report};
 use std::process::Abort;
 use std::test::Fail;
 
-// What is told, or else the message.
+/// What is told, or else the message.
 pub(crate) type Printed<'a> = Result<&'a str, &'a str>;
 
 pub(crate) fn prints(
@@ -25,7 +25,7 @@ pub(crate) fn prints(
     Ok(())
 }
 
-// Files without earnings.
+/// Files without earnings.
 pub(crate) fn all_print(
     rt: &(impl Abort + AllocGlobal),
     table: &[(&str, Printed<'_>)],

@@ -1,4 +1,4 @@
-// The bound, and what is given or taken on up to it.
+//! The bound, and what is given or taken on up to it.
 use crate::asking::*;
 use std::test::Fail;
 
@@ -9,7 +9,7 @@ cliffs: '1000000000' is no earning
 expected a whole number up to the bound, which is 999999999
 ";
 
-// A file that says nothing is asked up to one below a billion.
+/// A file that says nothing is asked up to one below a billion.
 #[test]
 fn no_bound(rt: HostRuntime) -> Result<(), Fail> {
     for file in ["", "\n", "\n \t \r\n# bound 5\n\t# a", "bound 999999999"] {
@@ -29,7 +29,7 @@ fn least_and_greatest(rt: HostRuntime) -> Result<(), Fail> {
     prints(&rt, "bound 1000000000", &["1000000000"], Ok(most))
 }
 
-// What is given on is given below a billion, and no more at it: of 999,999,995 just as much is left, of the next four more.
+/// What is given on is given below a billion, and no more at it: of 999,999,995 just as much is left, of the next four more.
 #[test]
 fn given_on(rt: HostRuntime) -> Result<(), Fail> {
     let told = "\
@@ -49,7 +49,7 @@ fn given_on(rt: HostRuntime) -> Result<(), Fail> {
     prints(&rt, "give 5 from 0 on", &["999999999"], Ok(without))
 }
 
-// What is taken on is taken below a billion, too: nobody loses by that, for at a billion there is only more left.
+/// What is taken on is taken below a billion, too: nobody loses by that, for at a billion there is only more left.
 #[test]
 fn taken_on(rt: HostRuntime) -> Result<(), Fail> {
     let told = "\

@@ -1,9 +1,9 @@
-// Words that name earnings.
+//! Words that name earnings.
 use crate::asking::*;
 use std::process::Abort;
 use std::test::Fail;
 
-// An earning that fits before it is not told, and a later word that doesn't fit is not the one that is shown.
+/// An earning that fits before it is not told, and a later word that doesn't fit is not the one that is shown.
 fn no_earning(rt: &(impl Abort + AllocGlobal), word: &str) -> Result<(), Fail> {
     let message = format!(in rt.alloc();
         "cliffs: '{word}' is no earning\nexpected a whole number up to the bound, which is 40\n"
@@ -38,7 +38,7 @@ fn refused(rt: HostRuntime) -> Result<(), Fail> {
     Ok(())
 }
 
-// In the order of the words, each as often as it is named, and without zeros before it.
+/// In the order of the words, each as often as it is named, and without zeros before it.
 #[test]
 fn told(rt: HostRuntime) -> Result<(), Fail> {
     let lines = "\

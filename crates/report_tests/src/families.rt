@@ -1,4 +1,4 @@
-// Rows, and what is left of the earnings that are named.
+//! Rows, and what is left of the earnings that are named.
 use crate::asking::*;
 use std::test::Fail;
 
@@ -10,7 +10,7 @@ give 200 below 1500              # the free school lunch
 fade 300 at 30 % above 500       # rent aid
 ";
 
-// Of 1,499 there are 1,599.50 left, of 1,500 only 1,400.
+/// Of 1,499 there are 1,599.50 left, of 1,500 only 1,400.
 #[test]
 fn family(rt: HostRuntime) -> Result<(), Fail> {
     let told = "\
@@ -21,7 +21,7 @@ fn family(rt: HostRuntime) -> Result<(), Fail> {
     prints(&rt, FAMILY, &["1300", "1510"], Ok(told))
 }
 
-// All of what is earned from 10 to 20 is taken: as much is left, and no less.
+/// All of what is earned from 10 to 20 is taken: as much is left, and no less.
 #[test]
 fn nobody_loses(rt: HostRuntime) -> Result<(), Fail> {
     let rules = "bound 30\ntake 100 % from 10 to 20\n";
@@ -53,7 +53,7 @@ fn a_row_of_one(rt: HostRuntime) -> Result<(), Fail> {
     prints(&rt, rules, &["9", "10"], Ok(told))
 }
 
-// One and a half of each unit above 15 are taken, up to the bound: of 19 there are 13 left, of 20 there are 12.50.
+/// One and a half of each unit above 15 are taken, up to the bound: of 19 there are 13 left, of 20 there are 12.50.
 #[test]
 fn never_safe(rt: HostRuntime) -> Result<(), Fail> {
     let rules = "bound 20\ntake 150 % from 15 to 30\n";

@@ -1,11 +1,11 @@
-// How a file is cut into lines, and how many rules it may have.
+//! How a file is cut into lines, and how many rules it may have.
 use crate::asking::*;
-use crate::refusals::RANGES;
+use crate::refusals::ROWS;
 use std::test::Fail;
 
 const ONE: Printed<'static> = Ok("9 to 9, up to 1.0000 less\n");
 
-// However the lines end, and whether the last one does: the last line is the one that makes 9 lose.
+/// However the lines end, and whether the last one does: the last line is the one that makes 9 lose.
 #[test]
 fn line_ends(rt: HostRuntime) -> Result<(), Fail> {
     let table = [
@@ -20,7 +20,7 @@ fn line_ends(rt: HostRuntime) -> Result<(), Fail> {
     all_print(&rt, &table)
 }
 
-// A mark that an editor put before the text says nothing.
+/// A mark that an editor put before the text says nothing.
 #[test]
 fn mark(rt: HostRuntime) -> Result<(), Fail> {
     let table = [
@@ -30,7 +30,7 @@ fn mark(rt: HostRuntime) -> Result<(), Fail> {
     all_print(&rt, &table)
 }
 
-// A line that is refused is shown as it stands, but for what ends it, and counted with those that say nothing.
+/// A line that is refused is shown as it stands, but for what ends it, and counted with those that say nothing.
 #[test]
 fn line_numbers(rt: HostRuntime) -> Result<(), Fail> {
     let expected = "\nexpected a bound up to 1000000000\n";
@@ -48,7 +48,7 @@ fn line_numbers(rt: HostRuntime) -> Result<(), Fail> {
     Ok(())
 }
 
-// Sixteen times a hundredth of each of ten units is taken. A seventeenth rule is refused by 5, but by 2 where it is out of range.
+/// Sixteen times a hundredth of each of ten units is taken. A seventeenth rule is refused by 5, but by 2 where it is out of range.
 #[test]
 fn sixteen_rules(rt: HostRuntime) -> Result<(), Fail> {
     let mut file = String::from_str(rt.alloc(), "bound 40\n")?;
@@ -61,7 +61,7 @@ fn sixteen_rules(rt: HostRuntime) -> Result<(), Fail> {
     prints(&rt, &file, &["10"], Ok(told))?;
     let table = [
         ("give 1 below 5", 5, "16 rules at most"),
-        ("give 1 below 0", 2, RANGES),
+        ("give 1 below 0", 2, ROWS),
     ];
     for (line, number, expected) in table {
         let more = format!(in rt.alloc(); "{file}{line}")?;

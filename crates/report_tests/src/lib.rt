@@ -1,5 +1,5 @@
-// Tests of what a file of rules and earnings come to, as tables. They stand in a crate of their own, since a crate with tests is
-// proved twice.
+//! Tests of what a file of rules and earnings come to, as tables. They stand in a crate of their own, since a crate with tests is
+//! proved twice.
 #![tactic(auto)]
 
 #[cfg(test)]

@@ -1,4 +1,4 @@
-// Lines that don't fit, as they are shown.
+//! Lines that don't fit, as they are shown.
 use crate::asking::*;
 use std::process::Abort;
 use std::test::Fail;
@@ -8,10 +8,10 @@ const FORMS: &str =
 `give 200 below 1500` or `fade 300 at 30 % above 500`: small letters, words apart by blanks, whole numbers up to 4294967295, \
 at most two decimals before %";
 
-pub(crate) const RANGES: &str =
+pub(crate) const ROWS: &str =
     "borders up to 1000000000, the first below the second; a rate up to 200 %, a sum up to 100000000";
 
-// Each of these is refused as the second line of a file, whatever comes after it, and whichever earnings are named.
+/// Each of these is refused as the second line of a file, whatever comes after it, and whichever earnings are named.
 fn all_refused(
     rt: &(impl Abort + AllocGlobal),
     lines: &[&str],
@@ -65,10 +65,10 @@ fn out_of_range(rt: HostRuntime) -> Result<(), Fail> {
         "fade 5 at 200.01 % above 5",
         "fade 5 at 5 % above 1000000001",
     ];
-    all_refused(&rt, &lines, 2, RANGES)
+    all_refused(&rt, &lines, 2, ROWS)
 }
 
-// One less fits each time.
+/// One less fits each time.
 #[test]
 fn in_range(rt: HostRuntime) -> Result<(), Fail> {
     let table = [
@@ -94,7 +94,7 @@ fn in_range(rt: HostRuntime) -> Result<(), Fail> {
     Ok(())
 }
 
-// Where carriage returns end lines, a comment would hide all that follows it.
+/// Where carriage returns end lines, a comment would hide all that follows it.
 #[test]
 fn returns(rt: HostRuntime) -> Result<(), Fail> {
     let table = [
@@ -112,7 +112,7 @@ fn returns(rt: HostRuntime) -> Result<(), Fail> {
     Ok(())
 }
 
-// A second bound, and one behind a rule.
+/// A second bound, and one behind a rule.
 #[test]
 fn bound_too_late(rt: HostRuntime) -> Result<(), Fail> {
     let table = [

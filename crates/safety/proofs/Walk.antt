@@ -62,9 +62,9 @@ whole rs b hs own last s h w line above within low e =
       };
     })
 
-module _ {rs : List Rule} {b last : ℕ} (g : ℕ) (safe : SafeOn rs b g (suc last)) (m : ℤ) (left : m ≡ net rs g) where
+module _ {rs : List Rule} {b last : ℕ} (g : ℕ) (safe : SafeOn rs b g (suc last)) (m : ℤ) (sweep : m ≡ net rs g) where
   here : (s : Segment) → NetLine rs b s.from s.to s.net s.slope → (k : ℕ) → s.from ≤ k → k < s.to → less_left rs g k ≡ below_at s m k
-  here s line k lo hi = net_order rs g k ∙ rw (← line.straight k lo hi, ← left) refl
+  here s line k lo hi = net_order rs g k ∙ rw (← line.straight k lo hi, ← sweep) refl
 
   -- one segment more, beyond which all is safe
   module _ {own : Segment} (past : g < own.to) (s : Segment) (i : WholeSegment rs b own last s) where

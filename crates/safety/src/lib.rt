@@ -1,5 +1,5 @@
-// From where on a gross is safe: from one past the last gross above it of which less is left. This crate owns that last gross,
-// which is found segment by segment from the bound down, and the safe gross.
+//! From where on a gross is safe: from one past the last gross above it of which less is left. This crate owns that last gross,
+//! which is found segment by segment from the bound down, and the safe gross.
 #![tactic(auto)]
 
 mod below;
@@ -13,7 +13,7 @@ ghost use Rattle.raise.specs.Told.{gross_told};
 use book::Book;
 use less::last_less;
 
-// The smallest gross above this one from which on, up to the bound, at least as much is left, if there is one.
+/// The smallest gross above this one from which on, up to the bound, at least as much is left, if there is one.
 #[tactic(auto, using(crate::proofs::Safe::past, crate::proofs::Safe::none_safe))]
 pub fn safe_from(book: &Book, gross: u32) -> Option<u32>
     ensures safe { gross_told result ≡ safe_from book.now.rules book.now.bound gross }

@@ -1,10 +1,10 @@
-// Cuts inside a segment: at a gross of which as much is left, and at the first of which more is.
+//! Cuts inside a segment: at a gross of which as much is left, and at the first of which more is.
 use crate::grosses::*;
 use samples::book_with;
 use std::test::Fail;
 use wire::RuleKind;
 
-// A sum of 3 is taken from 10 to 20: of 11 as much is left as of 8, and of 12 as much as of 9.
+/// A sum of 3 is taken from 10 to 20: of 11 as much is left as of 8, and of 12 as much as of 9.
 #[test]
 fn as_much(rt: HostRuntime) -> Result<(), Fail> {
     let rules = [RuleKind::TakeSum.rule([10, 20, 3])];
@@ -25,8 +25,8 @@ fn as_much(rt: HostRuntime) -> Result<(), Fail> {
     Ok(())
 }
 
-// Net is not in whole cents: at 8 and 9 it is 8.0001 and 9.0001; at 11 and 12, 8.0001 and 9.0001, or in the second book a
-// ten-thousandth less.
+/// Net is not in whole cents: at 8 and 9 it is 8.0001 and 9.0001; at 11 and 12, 8.0001 and 9.0001, or in the second book a
+/// ten-thousandth less.
 #[test]
 fn not_rounded(rt: HostRuntime) -> Result<(), Fail> {
     let rules = [
@@ -41,7 +41,7 @@ fn not_rounded(rt: HostRuntime) -> Result<(), Fail> {
     Ok(())
 }
 
-// From 10 on three tenths of each unit are left: net is 7.9 at 13, 8.2 at 14, 8.8 at 16 and 9.1 at 17.
+/// From 10 on three tenths of each unit are left: net is 7.9 at 13, 8.2 at 14, 8.8 at 16 and 9.1 at 17.
 #[test]
 fn between_two_grosses(rt: HostRuntime) -> Result<(), Fail> {
     let rules = [
@@ -76,7 +76,7 @@ fn between_two_grosses(rt: HostRuntime) -> Result<(), Fail> {
     Ok(())
 }
 
-// Whoever earns 9 is safe from the segment's first gross on, its second, its last but one, its last, and from past it.
+/// Whoever earns 9 is safe from the segment's first gross on, its second, its last but one, its last, and from past it.
 #[test]
 fn at_both_ends(rt: HostRuntime) -> Result<(), Fail> {
     let cases = [
@@ -95,8 +95,8 @@ fn at_both_ends(rt: HostRuntime) -> Result<(), Fail> {
     Ok(())
 }
 
-// Net rises to 1,000 at 1,000, falls to 940 at 1,060, and rises again: whoever earns 941 to 1,059 is safe only on the way up, where
-// net is as high again; 940 and 1,060, the lowest, are safe one above.
+/// Net rises to 1,000 at 1,000, falls to 940 at 1,060, and rises again: whoever earns 941 to 1,059 is safe only on the way up, where
+/// net is as high again; 940 and 1,060, the lowest, are safe one above.
 #[test]
 fn on_the_segment_that_falls(rt: HostRuntime) -> Result<(), Fail> {
     let book = book_with(2_000, &[RuleKind::Take.rule([1_000, 1_060, 20_000])])?;
@@ -123,8 +123,8 @@ fn on_the_segment_that_falls(rt: HostRuntime) -> Result<(), Fail> {
     Ok(())
 }
 
-// From 1,060 on 500 are given at once. On the way down 1,059 has least, as much as 941: whoever earns 942 to 1,059 is safe from
-// 1,060 on.
+/// From 1,060 on 500 are given at once. On the way down 1,059 has least, as much as 941: whoever earns 942 to 1,059 is safe from
+/// 1,060 on.
 #[test]
 fn at_the_end_of_what_falls(rt: HostRuntime) -> Result<(), Fail> {
     let rules = [
@@ -146,7 +146,7 @@ fn at_the_end_of_what_falls(rt: HostRuntime) -> Result<(), Fail> {
     Ok(())
 }
 
-// Of 10 to 20 the same is left, and as much is enough; in the second book of 16 to 20 a ten-thousandth less is, which is not.
+/// Of 10 to 20 the same is left, and as much is enough; in the second book of 16 to 20 a ten-thousandth less is, which is not.
 #[test]
 fn level(rt: HostRuntime) -> Result<(), Fail> {
     let rules = [

@@ -1,10 +1,10 @@
-// The greatest bound, and as many rules as a book can hold.
+//! The greatest bound, and as many rules as a book can hold.
 use crate::grosses::*;
 use samples::{MOST, book_with};
 use std::test::Fail;
 use wire::RuleKind;
 
-// At 0 a sum of 50,000 is given, from 1 on none, and of each unit so many ten-thousandths are taken. The cut is far out, and exact.
+/// At 0 a sum of 50,000 is given, from 1 on none, and of each unit so many ten-thousandths are taken. The cut is far out, and exact.
 #[test]
 fn a_slow_rise(rt: HostRuntime) -> Result<(), Fail> {
     let cases = [
@@ -29,7 +29,7 @@ fn a_slow_rise(rt: HostRuntime) -> Result<(), Fail> {
     Ok(())
 }
 
-// All rules hold at once and take most, and give most.
+/// All rules hold at once and take most, and give most.
 #[test]
 fn all_at_once(rt: HostRuntime) -> Result<(), Fail> {
     let book = book_with(MOST, &[RuleKind::Take.rule([0, MOST, 20_000]); 64])?;
@@ -57,8 +57,8 @@ fn all_at_once(rt: HostRuntime) -> Result<(), Fail> {
     Ok(())
 }
 
-// 64 sums of a hundred million over the whole range, each taken at one gross, of which then less is left than of any less than a
-// hundred million below it: whoever earns one of those is safe one above the last such gross.
+/// 64 sums of a hundred million over the whole row, each taken at one gross, of which then less is left than of any less than a
+/// hundred million below it: whoever earns one of those is safe one above the last such gross.
 #[test]
 fn a_sum_a_rule(rt: HostRuntime) -> Result<(), Fail> {
     let mut rules = [RuleKind::TakeSum.rule([1, 2, 100_000_000]); 64];

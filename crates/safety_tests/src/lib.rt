@@ -1,4 +1,4 @@
-// Tests of the gross from which on another is safe, as tables.
+//! Tests of the gross from which on another is safe, as tables.
 #![tactic(auto)]
 
 #[cfg(test)]

@@ -1,10 +1,10 @@
-// From where on: one gross above, a breakpoint, the bound, or nowhere.
+//! From where on: one gross above, a breakpoint, the bound, or nowhere.
 use crate::grosses::*;
 use samples::{MOST, book_with, family};
 use std::test::Fail;
 use wire::RuleKind;
 
-// Where nobody loses, one gross above is safe for each but the bound; as much is enough.
+/// Where nobody loses, one gross above is safe for each but the bound; as much is enough.
 #[test]
 fn one_above(rt: HostRuntime) -> Result<(), Fail> {
     let book = book_with(20, &[])?;
@@ -21,7 +21,7 @@ fn one_above(rt: HostRuntime) -> Result<(), Fail> {
     Ok(())
 }
 
-// Nothing up to the bound is above the bound, or above a gross beyond it.
+/// Nothing up to the bound is above the bound, or above a gross beyond it.
 #[test]
 fn at_the_bound_and_beyond(rt: HostRuntime) -> Result<(), Fail> {
     let book = book_with(0, &[])?;
@@ -35,8 +35,8 @@ fn at_the_bound_and_beyond(rt: HostRuntime) -> Result<(), Fail> {
     Ok(())
 }
 
-// A sum of 30 is taken from 10 on, up to before 20. Whoever earns 0 to 9 is safe from 20 on, which is below the bound, at it, or
-// past it; 10 has least, and is safe one above unless it is the bound.
+/// A sum of 30 is taken from 10 on, up to before 20. Whoever earns 0 to 9 is safe from 20 on, which is below the bound, at it, or
+/// past it; 10 has least, and is safe one above unless it is the bound.
 #[test]
 fn at_a_breakpoint(rt: HostRuntime) -> Result<(), Fail> {
     let cases = [
@@ -54,7 +54,7 @@ fn at_a_breakpoint(rt: HostRuntime) -> Result<(), Fail> {
     Ok(())
 }
 
-// A fifth more than each unit up to 10 is taken. Up to a bound of 10 nobody is safe anywhere; up to 13 all below the bound are.
+/// A fifth more than each unit up to 10 is taken. Up to a bound of 10 nobody is safe anywhere; up to 13 all below the bound are.
 #[test]
 fn nowhere_or_beyond(rt: HostRuntime) -> Result<(), Fail> {
     let rules = [RuleKind::Take.rule([0, 10, 12_000])];
@@ -76,7 +76,7 @@ fn nowhere_or_beyond(rt: HostRuntime) -> Result<(), Fail> {
     Ok(())
 }
 
-// Two sums are taken. Who has more than 21 left is safe only where the farther is behind, others above 5 where the nearer is.
+/// Two sums are taken. Who has more than 21 left is safe only where the farther is behind, others above 5 where the nearer is.
 #[test]
 fn two_sums(rt: HostRuntime) -> Result<(), Fail> {
     let rules = [
@@ -110,7 +110,7 @@ fn two_sums(rt: HostRuntime) -> Result<(), Fail> {
     Ok(())
 }
 
-// 1,300 is not safe from 1,510 on, and from 1,625 on it is.
+/// 1,300 is not safe from 1,510 on, and from 1,625 on it is.
 #[test]
 fn a_family(rt: HostRuntime) -> Result<(), Fail> {
     let book = book_with(5_000, &family())?;

@@ -1,4 +1,4 @@
-// For tests only. This crate owns how they make a book, and the rules that several of them make books of.
+//! For tests only. This crate owns how they make a book, and the rules that several of them make books of.
 #![tactic(auto)]
 
 ghost use Rattle.std.specs.Prelude.{◌≡◌, OkIff};
@@ -8,13 +8,13 @@ ghost use Rattle.samples.specs.Samples.{InRange, family, of_all_kinds};
 use book::{Book, is_fine};
 use wire::{Rule, RuleKind};
 
-// The greatest bound that a book may have.
+/// The greatest bound that a book may have.
 pub const MOST: u32 = 1_000_000_000;
 
 const NO_BOOK: &str = "no book has this bound and these rules";
 
-// The book with these rules and a limit of 64, if the bound and each rule are in range and there are at most 64; an error that a
-// test can fail with, if not.
+/// The book with these rules and a limit of 64, if the bound and each rule are in range and there are at most 64; an error that a
+/// test can fail with, if not.
 pub fn book_with(bound: u32, rules: &[Rule]) -> Result<Book, &'static str>
     ensures { OkIff result (InRange bound (all_meant rules.now)) (record { limit = 64; bound = bound; rules = all_meant rules.now }) }
 {
@@ -33,7 +33,7 @@ pub fn book_with(bound: u32, rules: &[Rule]) -> Result<Book, &'static str>
     Ok(book)
 }
 
-// Rules of all kinds, by which some lose by the next unit, some by one far above, and some not at all.
+/// Rules of all kinds, by which some lose by the next unit, some by one far above, and some not at all.
 pub fn rules_of_all_kinds() -> [Rule; 9]
     ensures { all_meant result ≡ of_all_kinds }
 {
@@ -50,7 +50,7 @@ pub fn rules_of_all_kinds() -> [Rule; 9]
     ]
 }
 
-// A family: 20 % of what is above 1,000 is taken, 40 % above 3,000; 200 are given below 1,500, and 300 that fade by 30 % above 500.
+/// A family: 20 % of what is above 1,000 is taken, 40 % above 3,000; 200 are given below 1,500, and 300 that fade by 30 % above 500.
 pub fn family() -> [Rule; 4]
     ensures { all_meant result ≡ family }
 {

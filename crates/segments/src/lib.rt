@@ -1,6 +1,6 @@
-// Segments: the stretches between breakpoints, on which net is a straight line. This crate owns the next breakpoint above a
-// gross, the segment from a gross on, where each rule holds, and which do on a segment; it goes through the rules each time and
-// stores nothing.
+//! Segments: the stretches between breakpoints, on which net is a straight line. This crate owns the next breakpoint above a
+//! gross, the segment from a gross on, where each rule holds, and which do on a segment; it goes through the rules each time and
+//! stores nothing.
 #![tactic(auto)]
 
 mod breakpoints;

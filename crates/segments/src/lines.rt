@@ -1,4 +1,4 @@
-// A segment: the grosses from one on, up to before the next breakpoint, with the line that net is on it.
+//! A segment: the grosses from one on, up to before the next breakpoint, with the line that net is on it.
 ghost use Rattle.std.specs.Prelude.{◌≡◌, ◌+◌, ◌<◌, ◌≤◌, min, pos, ◌≤ℤ◌};
 ghost use Rattle.raise.specs.Net.{on_line};
 ghost use Rattle.segments.specs.Segments.{segment_at, SegmentOf, Sized, SegmentsCover, FirstAbove};
@@ -7,7 +7,7 @@ use crate::breakpoints::next_breakpoint;
 use crate::slopes::{holding_at, slope_on};
 use book::Book;
 
-// The grosses from `from` on, before `to`; what is left of `from`, and by how much net rises for each unit more.
+/// The grosses from `from` on, before `to`; what is left of `from`, and by how much net rises for each unit more.
 #[derive(Clone, Copy, Debug, PartialEq, Eq)]
 pub struct Segment {
     pub from: u32,
@@ -16,7 +16,7 @@ pub struct Segment {
     pub slope: i64,
 }
 
-// The gross one past so many steps, or the greatest number there is, where that is less.
+/// The gross one past so many steps, or the greatest number there is, where that is less.
 fn one_past(from: u32, steps: u64) -> u64
     ensures { result ≡ min (from + steps + 1) 18446744073709551615 }
 {
@@ -24,7 +24,7 @@ fn one_past(from: u32, steps: u64) -> u64
 }
 
 impl Segment {
-    // Net at a gross on the segment, by its line.
+    /// Net at a gross on the segment, by its line.
     pub fn net_at(self, gross: u32) -> i64
         requires sized { Sized self }
         requires low { self.from ≤ gross }
@@ -34,8 +34,8 @@ impl Segment {
         self.net + self.slope * i64::from(gross - self.from)
     }
 
-    // The first gross on a segment that doesn't fall of which more is left than so much, if there is one. Of all after it on the
-    // segment more is, too.
+    /// The first gross on a segment that doesn't fall of which more is left than so much, if there is one. Of all after it on the
+    /// segment more is, too.
     #[tactic(auto, using(crate::proofs::Above::found_above, crate::proofs::Above::none_above))]
     pub fn first_above(self, level: i64) -> Option<u32>
         requires some { self.from < self.to }
@@ -59,8 +59,8 @@ impl Segment {
     }
 }
 
-// The segment from a gross up to the bound on. Those from 0 on, one after the other, cover all grosses up to the bound without
-// gap or overlap, and are at most two for each rule and one more.
+/// The segment from a gross up to the bound on. Those from 0 on, one after the other, cover all grosses up to the bound without
+/// gap or overlap, and are at most two for each rule and one more.
 pub fn segment_from(book: &Book, from: u32) -> Segment
     requires { from ≤ book.now.bound }
     ensures segment { result ≡ segment_at book.now.rules book.now.bound from }

@@ -1,4 +1,4 @@
-// Which rules hold at a gross, as bits, and how fast net rises by them.
+//! Which rules hold at a gross, as bits, and how fast net rises by them.
 ghost use Rattle.std.specs.Prelude.{◌≡◌, ℕ, ◌<◌, ◌≤◌, true, length};
 ghost use Rattle.raise.specs.Net.{breakpoints, clear};
 ghost use Rattle.book.specs.Meant.{all_meant};
@@ -8,7 +8,7 @@ use crate::spans::{holds_at, pace_of};
 use book::Book;
 use wire::Rule;
 
-// The i-th bit of a number.
+/// The i-th bit of a number.
 fn is_set(bits: u64, i: usize) -> bool
     requires { i < 64 }
     ensures { result ≡ marked bits i }
@@ -16,8 +16,8 @@ fn is_set(bits: u64, i: usize) -> bool
     bits >> i & 1 == 1
 }
 
-// Which rules hold at a gross, the i-th bit for the i-th rule. The same hold on all of the segment that begins there. At most 64
-// rules, any, those too that no book can hold, so that a `&Book` would ask more.
+/// Which rules hold at a gross, the i-th bit for the i-th rule. The same hold on all of the segment that begins there. At most 64
+/// rules, any, those too that no book can hold, so that a `&Book` would ask more.
 #[tactic(auto, using(crate::proofs::Marks::it_holds, crate::proofs::Marks::it_fails, crate::proofs::Marks::all_rules))]
 pub fn holding_at(rules: &[Rule], gross: u32) -> u64
     requires { length rules.now ≤ 64 }
@@ -33,7 +33,7 @@ pub fn holding_at(rules: &[Rule], gross: u32) -> u64
     bits
 }
 
-// How fast net rises where just the rules hold whose bits are set: by the unit itself, and by what they do.
+/// How fast net rises where just the rules hold whose bits are set: by the unit itself, and by what they do.
 #[tactic(auto, using(crate::proofs::Paces::sum_fits), unfolding(crate::specs::Bits::slope_on))]
 pub(crate) fn slope_on(book: &Book, holding: u64) -> i64
     ensures { result ≡ slope_on (marked holding) book.now.rules }

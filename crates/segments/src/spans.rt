@@ -1,4 +1,4 @@
-// One rule: where it holds, and how fast its share rises there.
+//! One rule: where it holds, and how fast its share rises there.
 ghost use Rattle.std.specs.Prelude.{◌≡◌};
 ghost use Rattle.raise.specs.Rules.{fades};
 ghost use Rattle.raise.specs.Net.{holds, pace};
@@ -7,14 +7,14 @@ ghost use Rattle.segments.specs.Spans.{span, SpanEnds, SpanHolds};
 
 use wire::Rule;
 
-// From a rule's first breakpoint on, up to before its second, or for good where it has no second.
+/// From a rule's first breakpoint on, up to before its second, or for good where it has no second.
 #[derive(Clone, Copy, Debug, PartialEq, Eq)]
 pub struct Span {
     pub from: u32,
     pub to: Option<u64>,
 }
 
-// One past the last unit at which something may be left of a fade; a rate of 0 never uses it up.
+/// One past the last unit at which something may be left of a fade; a rate of 0 never uses it up.
 fn faded_at(from: u32, rate: u32, sum: u32) -> Option<u64>
     ensures { result ≡ (span (fades from rate sum)).to }
 {
@@ -22,7 +22,7 @@ fn faded_at(from: u32, rate: u32, sum: u32) -> Option<u64>
     Some(u64::from(from) + units + 1)
 }
 
-// The stretch on which a rule holds; its ends are the rule's breakpoints.
+/// The stretch on which a rule holds; its ends are the rule's breakpoints.
 #[tactic(auto, using(crate::proofs::Points::span_ends, crate::proofs::Points::span_holds))]
 pub fn span_of(rule: Rule) -> Span
     ensures span { result ≡ span (meant rule) }
@@ -44,7 +44,7 @@ pub fn span_of(rule: Rule) -> Span
     }
 }
 
-// Does a rule hold at a gross?
+/// Does a rule hold at a gross?
 pub(crate) fn holds_at(rule: Rule, gross: u32) -> bool
     ensures { result ≡ holds (meant rule) gross }
 {
@@ -52,7 +52,7 @@ pub(crate) fn holds_at(rule: Rule, gross: u32) -> bool
     span.from <= gross && span.to.is_none_or(|to| u64::from(gross) < to)
 }
 
-// How fast a rule's share rises for each unit where it holds, in ten-thousandths of a unit.
+/// How fast a rule's share rises for each unit where it holds, in ten-thousandths of a unit.
 pub(crate) fn pace_of(rule: Rule) -> i64
     ensures { result ≡ pace (meant rule) }
 {

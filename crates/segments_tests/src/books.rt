@@ -1,10 +1,10 @@
-// Books of rules, and tables of what their segments must be.
+//! Books of rules, and tables of what their segments must be.
 use book::Book;
 use segments::{Segment, holding_at, next_breakpoint, segment_from};
 use std::process::Abort;
 use std::test::Fail;
 
-// The segment from its first gross on is this.
+/// The segment from its first gross on is this.
 pub(crate) fn is(rt: &impl Abort, book: &Book, expected: Segment) -> Result<(), Fail> {
     if expected.from > book.bound() {
         return Err(Fail::new("above the bound"));
@@ -13,7 +13,7 @@ pub(crate) fn is(rt: &impl Abort, book: &Book, expected: Segment) -> Result<(), 
     Ok(())
 }
 
-// The segments from 0 on are these, up to the bound: where each ends, net at its beginning, and its slope.
+/// The segments from 0 on are these, up to the bound: where each ends, net at its beginning, and its slope.
 pub(crate) fn cut(rt: &impl Abort, book: &Book, expected: &[(u32, i64, i64)]) -> Result<(), Fail> {
     let mut from = 0;
     for (to, net, slope) in expected {
@@ -30,7 +30,7 @@ pub(crate) fn cut(rt: &impl Abort, book: &Book, expected: &[(u32, i64, i64)]) ->
     Ok(())
 }
 
-// On the segment from the first gross on, this is left of the second.
+/// On the segment from the first gross on, this is left of the second.
 pub(crate) fn along(
     rt: &impl Abort,
     book: &Book,
@@ -49,14 +49,14 @@ pub(crate) fn along(
     Ok(())
 }
 
-// From each gross the next breakpoint is this.
+/// From each gross the next breakpoint is this.
 pub(crate) fn next(rt: &impl Abort, book: &Book, expected: &[(u32, u32)]) {
     for (gross, point) in expected {
         assert_eq!(rt; next_breakpoint(book.rules(), book.bound(), *gross), *point);
     }
 }
 
-// At each gross these rules hold.
+/// At each gross these rules hold.
 pub(crate) fn hold(rt: &impl Abort, book: &Book, expected: &[(u32, u64)]) {
     for (gross, bits) in expected {
         assert_eq!(rt; holding_at(book.rules(), *gross), *bits);

@@ -1,4 +1,4 @@
-// Rules of every kind, and breakpoints at the edges.
+//! Rules of every kind, and breakpoints at the edges.
 use crate::books::*;
 use samples::{MOST, book_with, family};
 use segments::{Span, span_of};
@@ -25,7 +25,7 @@ fn no_rules(rt: HostRuntime) -> Result<(), Fail> {
     Ok(())
 }
 
-// 10, 20 and 30 are breakpoints of two rules each: one segment begins there, and no empty one.
+/// 10, 20 and 30 are breakpoints of two rules each: one segment begins there, and no empty one.
 #[test]
 fn together(rt: HostRuntime) -> Result<(), Fail> {
     let rules = [
@@ -62,7 +62,7 @@ fn together(rt: HostRuntime) -> Result<(), Fail> {
     Ok(())
 }
 
-// The segment at the bound has one gross, and the slope of the rules that hold there.
+/// The segment at the bound has one gross, and the slope of the rules that hold there.
 #[test]
 fn at_the_edges(rt: HostRuntime) -> Result<(), Fail> {
     let rules = [
@@ -100,8 +100,8 @@ fn at_the_edges(rt: HostRuntime) -> Result<(), Fail> {
     cut(&rt, &book, &[(5, 20_000, 10_000), (6, 50_000, 10_000)])
 }
 
-// Taxes, a lunch that ends at 1,500, and an aid that fades above 500 and is used up at 1,500. Between the two breakpoints, 1,500
-// and 1,501, lies a segment of one gross, with the slope of the aid; from 1,501 on net rises faster.
+/// Taxes, a lunch that ends at 1,500, and an aid that fades above 500 and is used up at 1,500. Between the two breakpoints, 1,500
+/// and 1,501, lies a segment of one gross, with the slope of the aid; from 1,501 on net rises faster.
 #[test]
 fn of_a_family(rt: HostRuntime) -> Result<(), Fail> {
     let book = book_with(5_000, &family())?;
@@ -150,8 +150,8 @@ fn where_each_holds(rt: HostRuntime) {
     }
 }
 
-// A fade holds from its border to the last unit at which something may be left of it: exactly at a whole unit, inside one,
-// within its first.
+/// A fade holds from its border to the last unit at which something may be left of it: exactly at a whole unit, inside one,
+/// within its first.
 #[test]
 fn fades(rt: HostRuntime) -> Result<(), Fail> {
     let book = book_with(
@@ -193,7 +193,7 @@ fn fades(rt: HostRuntime) -> Result<(), Fail> {
     )
 }
 
-// It is never used up at a rate of 0, and past 2^32 at a low one, where its end cut to 32 bits would be 2,705.
+/// It is never used up at a rate of 0, and past 2^32 at a low one, where its end cut to 32 bits would be 2,705.
 #[test]
 fn fades_that_last(rt: HostRuntime) -> Result<(), Fail> {
     let book = book_with(40, &[RuleKind::Fade.rule([5, 0, 9])])?;

@@ -1,5 +1,5 @@
-// Tests of segments, as tables: a book's segments one after the other, breakpoints from any gross, which rules hold, and where
-// a line is above a level.
+//! Tests of segments, as tables: a book's segments one after the other, breakpoints from any gross, which rules hold, and where
+//! a line is above a level.
 #![tactic(auto)]
 
 #[cfg(test)]

@@ -1,9 +1,9 @@
-// The first gross on a segment of which more is left than so much.
+//! The first gross on a segment of which more is left than so much.
 use segments::Segment;
 use std::process::Abort;
 use std::test::Fail;
 
-// On the segment from 10 up to before 20, with this net at 10 and this slope.
+/// On the segment from 10 up to before 20, with this net at 10 and this slope.
 fn above(
     rt: &impl Abort,
     net: i64,
@@ -25,7 +25,7 @@ fn above(
     Ok(())
 }
 
-// Of 11 107 are left, and of 19 163.
+/// Of 11 107 are left, and of 19 163.
 #[test]
 fn rising(rt: HostRuntime) -> Result<(), Fail> {
     let expected = [
@@ -56,7 +56,7 @@ fn level(rt: HostRuntime) -> Result<(), Fail> {
     above(&rt, -100, 0, &expected)
 }
 
-// The greatest numbers that there can be.
+/// The greatest numbers that there can be.
 #[test]
 fn far_above(rt: HostRuntime) -> Result<(), Fail> {
     above(&rt, i64::MIN, 1, &[(i64::MIN, Some(11)), (i64::MAX, None)])?;

@@ -1,11 +1,11 @@
-// As many rules as a book can hold.
+//! As many rules as a book can hold.
 use crate::books::*;
 use samples::{MOST, book_with};
 use segments::Segment;
 use std::test::Fail;
 use wire::{Rule, RuleKind};
 
-// Each rule begins and ends at a breakpoint of its own.
+/// Each rule begins and ends at a breakpoint of its own.
 fn apart() -> [Rule; 64] {
     let mut rules = [RuleKind::GiveSum.rule([1, 2, 0]); 64];
     for i in 0..64u32 {
@@ -23,7 +23,7 @@ fn level(from: u32, to: u32, net: i64) -> Segment {
     }
 }
 
-// 129 segments, with one rule on every other one, and none on the last.
+/// 129 segments, with one rule on every other one, and none on the last.
 #[test]
 fn as_many_segments(rt: HostRuntime) -> Result<(), Fail> {
     let book = book_with(200, &apart())?;
@@ -40,7 +40,7 @@ fn as_many_segments(rt: HostRuntime) -> Result<(), Fail> {
     Ok(())
 }
 
-// All rules hold at once and take most.
+/// All rules hold at once and take most.
 #[test]
 fn all_at_once(rt: HostRuntime) -> Result<(), Fail> {
     let book = book_with(MOST, &[RuleKind::Take.rule([0, MOST, 20_000]); 64])?;

@@ -8,7 +8,7 @@ use Rattle.raise.specs.Rules.{Rule, all_plus, all_minus, safe_from}
 use Rattle.raise.specs.Calls.{Call, Answer, Limits, lays, lifts, left_of, next_row, safe, garbled, refused, number, two, turned, place, told, answer, answers}
 use Rattle.raise.specs.Promise.{readable, all_below, ran}
 use Rattle.raise.specs.Laws.{RowTold, SafeTold}
-use Rattle.raise.proofs.Rows.{rows}
+use Rattle.raise.proofs.Rows.{row_stands}
 use Rattle.raise.proofs.Search.{safe_told}
 use Rattle.wire.specs.CallBytes.{call_of}
 use Rattle.wire.specs.AnswerBytes.{answer_bytes, answer_of, sayable}
@@ -89,7 +89,7 @@ told_sayable b (lifts i) g f = lt-ltb i 18446744073709551616 (omega (arith, ltb-
 told_sayable b (left_of x) g f =
     let a = amounts_fit b.rules x (good_within b g) (ltb-true x 4294967296 f) in
     two_fit (all_plus b.rules x) (all_minus b.rules x) (omega (arith, a.0)) (omega (arith, a.1))
-told_sayable b (next_row x) g f = row_sayable b.rules b.bound x (told (limits b) b.rules (next_row x)) g.low (rows (limits b) b.rules x)
+told_sayable b (next_row x) g f = row_sayable b.rules b.bound x (told (limits b) b.rules (next_row x)) g.low (row_stands (limits b) b.rules x)
 told_sayable b (safe x) g f = lt-ltb (safe_from b.rules b.bound x) 18446744073709551616 (safe_sayable b.rules b.bound x (safe_from b.rules b.bound x) g.low (safe_told b.rules b.bound x))
 told_sayable b (garbled n) g f = refl
 

@@ -1,11 +1,11 @@
 -- All rows, one after the other, on the image of a good book with anything behind it.
 use Rattle.std.proofs.Common.{◌≡◌, ℕ, suc, ◌≤◌, eqb, List, [], ◌∷◌, ◌++◌, refl, ap, ◌∙◌, inl, inr, arith}
 use Rattle.std.proofs.lemmas.Bool.{cases_Bool, le-leb}
-use Rattle.raise.specs.declared.LosingRange.{LosingRange}
+use Rattle.raise.specs.declared.LosingRow.{LosingRow}
 use Rattle.raise.specs.Rules.{Rule}
 use Rattle.raise.specs.Calls.{Limits, next_row, turned, changed, told, after, answer}
-use Rattle.raise.specs.Ranges.{losing_ranges}
-use Rattle.raise.proofs.Ranges.{losing_found, From, none_told, first_told, first_below, others}
+use Rattle.raise.specs.Rows.{losing_rows}
+use Rattle.raise.proofs.AllRows.{losing_found, From, none_told, first_told, first_below, others}
 use Rattle.book.specs.Held.{Book, Good, image, with_rules}
 use Rattle.session.specs.Memory.{limits, next_words, desk}
 use Rattle.session.specs.Rows.{TellsRows, TellsAllRows}
@@ -25,7 +25,7 @@ module _ (b : Book) (ys : List ℕ) (k : Good b) where
   stays : (g : ℕ) → next_words (image b ++ ys) (next_row g) ≡ image b ++ ys
   stays g = next_behind b ys (next_row g) k ∙ ap (λ (rs : List Rule). image (with_rules b rs) ++ ys) (same_rules (limits b) b.rules g)
 
-  tells : (g : ℕ) (rows : List LosingRange) → g ≤ b.bound → From (limits b) b.rules g g rows → TellsRows desk (record { words = image b ++ ys }) g rows
+  tells : (g : ℕ) (rows : List LosingRow) → g ≤ b.bound → From (limits b) b.rules g g rows → TellsRows desk (record { words = image b ++ ys }) g rows
   unfolding TellsRows
   tells g [] le f = says_behind b ys (next_row g) k ∙ answered (limits b) b.rules g le ∙ none_told (limits b) b.rules g f
   tells g (r ∷ rows) le f = (
@@ -37,4 +37,4 @@ module _ (b : Book) (ys : List ℕ) (k : Good b) where
   unfolding TellsAllRows
   tells_all =
       let i = losing_found b.rules b.bound in
-      (losing_ranges b.rules b.bound, i, tells 0 (losing_ranges b.rules b.bound) (omega arith) (record { apart = i.apart; exact = λ g lo. i.exact g }))
+      (losing_rows b.rules b.bound, i, tells 0 (losing_rows b.rules b.bound) (omega arith) (record { apart = i.apart; exact = λ g lo. i.exact g }))

@@ -1,6 +1,6 @@
-// The session: a book is opened in lent words, and from then on each call, as bytes, gets its answer. This crate owns open, call
-// and serve, in which order refusals come, and what is promised of whole lists of calls. The words are all the state, nothing is
-// allocated, and any words and any bytes may be handed in: what cannot serve is refused.
+//! The session: a book is opened in lent words, and from then on each call, as bytes, gets its answer. This crate owns open, call
+//! and serve, in which order refusals come, and what is promised of whole lists of calls. The words are all the state, nothing is
+//! allocated, and any words and any bytes may be handed in: what cannot serve is refused.
 #![tactic(auto)]
 
 mod replies;
@@ -22,7 +22,7 @@ use book::{open_empty, words_asked};
 use replies::{at_most, reply};
 use wire::{Answer, Refusal};
 
-// How many words a limit of so many rules asks for, if there are so many.
+/// How many words a limit of so many rules asks for, if there are so many.
 fn room_for(words: &[u64], rules: u32) -> Option<usize>
     ensures { result ≡ pick (nat_le (asked rules) (length words.now)) (Some (asked rules)) None }
 {
@@ -30,8 +30,8 @@ fn room_for(words: &[u64], rules: u32) -> Option<usize>
     (words.len() >= count).then_some(count)
 }
 
-// Opens a book in the lent words, for so many rules and earnings up to so much: two numbers, each with a refusal of its own. The
-// limits and the room are checked in this order. An accepted opening serves for good.
+/// Opens a book in the lent words, for so many rules and earnings up to so much: two numbers, each with a refusal of its own. The
+/// limits and the room are checked in this order. An accepted opening serves for good.
 #[tactic(auto, using(crate::proofs::Runs::suffices))]
 pub fn open(words: &mut [u64], rules: u32, bound: u32) -> Result<(), Refusal>
     ensures said { said_open result ≡ opening words.old (limited rules bound) }
@@ -52,11 +52,11 @@ pub fn open(words: &mut [u64], rules: u32, bound: u32) -> Result<(), Refusal>
     Ok(())
 }
 
-// Answers the call that the bytes are. For every list of calls the answers are those of the written book, a call that
-// is turned away changes nothing, and memory stays within what is asked for. Asked for one after the other, the rows that are told
-// are those of all earnings up to the bound at which somebody loses by earning more, from the first to the last, none left out. For
-// each earning up to the bound the smallest larger one is told from which on at least as much is left, or that there is none. Calls
-// that lay only some kinds of rules, such as rates, get the answers of a book that can do no others.
+/// Answers the call that the bytes are. For every list of calls the answers are those of the written book, a call that
+/// is turned away changes nothing, and memory stays within what is asked for. Asked for one after the other, the rows that are told
+/// are those of all earnings up to the bound at which somebody loses by earning more, from the first to the last, none left out. For
+/// each earning up to the bound the smallest larger one is told from which on at least as much is left, or that there is none. Calls
+/// that lay only some kinds of rules, such as rates, get the answers of a book that can do no others.
 #[tactic(auto, using(crate::proofs::Runs::right, crate::proofs::Runs::refusal_keeps, crate::proofs::Runs::all_rows, crate::proofs::Runs::all_safe, crate::proofs::Nothing::all_plain, crate::proofs::OtherKinds::keeps_answers))]
 pub fn call(words: &mut [u64], bytes: &[u8]) -> Answer
     ensures said { says result ≡ says_words words.old (call_of bytes.now) }
@@ -73,8 +73,8 @@ pub fn call(words: &mut [u64], bytes: &[u8]) -> Answer
     reply(words, bytes).unwrap_or_else(Answer::Refused)
 }
 
-// The same with the answer's 24 bytes in `out`, and how many were written. Where `out` is too short none are, and nothing is asked
-// of the book or changed. A count and no `Option`: its clauses give callers just that.
+/// The same with the answer's 24 bytes in `out`, and how many were written. Where `out` is too short none are, and nothing is asked
+/// of the book or changed. A count and no `Option`: its clauses give callers just that.
 #[tactic(auto, using(crate::proofs::OnBytes::right_bytes, crate::proofs::OnBytes::read_back_bytes, crate::proofs::OnBytes::refusal_keeps_bytes))]
 pub fn serve(words: &mut [u64], bytes: &[u8], out: &mut [u8]) -> usize
     ensures count { result ≡ if_room out.old 24 0 }

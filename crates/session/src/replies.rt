@@ -1,4 +1,4 @@
-// The answer to each call, on a book that was read from the words.
+//! The answer to each call, on a book that was read from the words.
 #![tactic(auto, unfolding(raise::specs::Calls::turned, raise::specs::Calls::place, raise::specs::Calls::told, raise::specs::Calls::changed))]
 
 ghost use Rattle.std.specs.Prelude.{◌≡◌, ◌≤◌, length, Some, None, nat_le};
@@ -8,23 +8,23 @@ ghost use Rattle.raise.specs.Told.{gross_told, row_told};
 ghost use Rattle.wire.specs.Meaning.{meant, asks, says};
 ghost use Rattle.wire.specs.CallBytes.{call_of};
 ghost use Rattle.session.specs.Memory.{says_words, next_words};
-ghost use Rattle.losses.specs.Words.{row_words};
+ghost use Rattle.losses.specs.Words.{row_room};
 ghost use Rattle.session.specs.Answered.{Answered, KeptIfRefused, says_or};
 
 use book::{Book, is_fine, read_book, write_book};
 use losses::row_from;
-use raise::LosingRange;
+use raise::LosingRow;
 use safety::safe_from;
 use wire::{Answer, Call, Refusal, Rule, read_call};
 
-// The value, if it is at most so much.
+/// The value, if it is at most so much.
 pub(crate) fn at_most(value: u32, most: u32) -> Option<u32>
     ensures { result ≡ pick (nat_le value most) (Some value) None }
 {
     (value <= most).then_some(value)
 }
 
-// The rule, if it is in range.
+/// The rule, if it is in range.
 fn admit(rule: Rule) -> Option<Rule>
     ensures { result ≡ pick (fine (meant rule)) (Some rule) None }
 {
@@ -52,7 +52,7 @@ fn lift_rule(book: &mut Book, i: u32) -> Result<Answer, Refusal>
     Ok(Answer::Number(number.into()))
 }
 
-// What comes in and what goes out.
+/// What comes in and what goes out.
 fn tell_left(book: &Book, gross: u32) -> Result<Answer, Refusal>
     ensures { Answered (left_of gross) book.now book.now result }
 {
@@ -63,8 +63,8 @@ fn tell_left(book: &Book, gross: u32) -> Result<Answer, Refusal>
     Ok(Answer::Two(flows.inflow, flows.outflow))
 }
 
-// Each gross of a row as one more than it is, or 0, as answers have it. No `From`: an answer and a row are both of other crates.
-fn row_answer(row: Option<LosingRange>) -> Answer
+/// Each gross of a row as one more than it is, or 0, as answers have it. No `From`: an answer and a row are both of other crates.
+fn row_answer(row: Option<LosingRow>) -> Answer
     ensures { says result ≡ row_told row }
 {
     match row {
@@ -73,9 +73,9 @@ fn row_answer(row: Option<LosingRange>) -> Answer
     }
 }
 
-// The first row of those who lose, from a gross on. The scratch is written only once the call is accepted.
+/// The first row of those who lose, from a gross on. The scratch is written only once the call is accepted.
 fn tell_row(book: &Book, scratch: &mut [u64], gross: u32) -> Result<Answer, Refusal>
-    requires { row_words book.now.rules ≤ length scratch.old }
+    requires { row_room book.now.rules ≤ length scratch.old }
     ensures answered { Answered (next_row gross) book.now book.now result }
     ensures kept { KeptIfRefused result scratch.old scratch.new }
 {
@@ -85,7 +85,7 @@ fn tell_row(book: &Book, scratch: &mut [u64], gross: u32) -> Result<Answer, Refu
     Ok(row_answer(row_from(book, scratch, gross)))
 }
 
-// A safe gross as one more than it is, or 0, likewise.
+/// A safe gross as one more than it is, or 0, likewise.
 fn safe_answer(gross: Option<u32>) -> Answer
     ensures { says result ≡ number (gross_told gross) }
 {
@@ -95,7 +95,7 @@ fn safe_answer(gross: Option<u32>) -> Answer
     }
 }
 
-// From where on a gross is safe.
+/// From where on a gross is safe.
 fn tell_safe(book: &Book, gross: u32) -> Result<Answer, Refusal>
     ensures { Answered (safe gross) book.now book.now result }
 {
@@ -105,9 +105,9 @@ fn tell_safe(book: &Book, gross: u32) -> Result<Answer, Refusal>
     Ok(safe_answer(safe_from(book, gross)))
 }
 
-// The answer to a call on a book, and the book after it. A call that is turned away leaves the scratch as it was, too.
+/// The answer to a call on a book, and the book after it. A call that is turned away leaves the scratch as it was, too.
 fn answer_to(book: &mut Book, scratch: &mut [u64], call: Call) -> Result<Answer, Refusal>
-    requires { row_words book.old.rules ≤ length scratch.old }
+    requires { row_room book.old.rules ≤ length scratch.old }
     ensures answered { Answered (asks call) book.old book.new result }
     ensures kept { KeptIfRefused result scratch.old scratch.new }
 {
@@ -120,8 +120,8 @@ fn answer_to(book: &mut Book, scratch: &mut [u64], call: Call) -> Result<Answer,
     }
 }
 
-// The answer to the call that the bytes are, if they are one and the words hold a book, which is written back once the call
-// is accepted. Bytes that can't be read are refused before the words are looked at.
+/// The answer to the call that the bytes are, if they are one and the words hold a book, which is written back once the call
+/// is accepted. Bytes that can't be read are refused before the words are looked at.
 pub(crate) fn reply(words: &mut [u64], bytes: &[u8]) -> Result<Answer, Refusal>
     ensures said { says_or result ≡ says_words words.old (call_of bytes.now) }
     ensures words { words.new ≡ next_words words.old (call_of bytes.now) }

@@ -1,5 +1,5 @@
-// The session for callers in another language. This crate owns how open and serve are called from there: a slice is passed as a
-// pointer and a length. For tests and measurements only.
+//! The session for callers in another language. This crate owns how open and serve are called from there: a slice is passed as a
+//! pointer and a length. For tests and measurements only.
 #![tactic(auto)]
 
 ghost use Rattle.std.specs.Prelude.{◌≡◌, ◌++◌, drop};
@@ -7,14 +7,14 @@ ghost use Rattle.session.specs.Memory.{limited, opening, open_words};
 ghost use Rattle.session.specs.Bytes.{says_bytes, next_bytes, if_room};
 ghost use Rattle.session_c.specs.Opened.{said};
 
-// The number and the place of the refusal of an opening; 0 and 0 where it was accepted.
+/// The number and the place of the refusal of an opening; 0 and 0 where it was accepted.
 #[repr(C)]
 pub struct Opened {
     pub number: u64,
     pub place: u64,
 }
 
-// Opens a book in the lent words.
+/// Opens a book in the lent words.
 #[unsafe(no_mangle)]
 pub extern "C" fn session_open(words: &mut [u64], rules: u32, bound: u32) -> Opened
     ensures said { said result ≡ opening words.old (limited rules bound) }
@@ -32,7 +32,7 @@ pub extern "C" fn session_open(words: &mut [u64], rules: u32, bound: u32) -> Ope
     }
 }
 
-// Answers the call that the bytes are, with the answer's 24 bytes in `out`, and how many were written.
+/// Answers the call that the bytes are, with the answer's 24 bytes in `out`, and how many were written.
 #[unsafe(no_mangle)]
 pub extern "C" fn session_serve(words: &mut [u64], bytes: &[u8], out: &mut [u8]) -> usize
     ensures count { result ≡ if_room out.old 24 0 }

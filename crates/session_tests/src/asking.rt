@@ -1,4 +1,4 @@
-// Calls as bytes, and tables of what they must answer.
+//! Calls as bytes, and tables of what they must answer.
 use session::{call, open};
 use std::process::Abort;
 use std::test::Fail;
@@ -6,10 +6,10 @@ use wire::{Answer, Refusal};
 
 pub(crate) const MOST: u32 = 1_000_000_000;
 
-// Words for four rules, and four more.
+/// Words for four rules, and four more.
 pub(crate) const WORDS: usize = 196;
 
-// Kinds as the bytes of a call have them, which is what is tested here.
+/// Kinds as the bytes of a call have them, which is what is tested here.
 pub(crate) const TAKE: u8 = 0;
 
 pub(crate) const GIVE: u8 = 1;
@@ -51,14 +51,14 @@ pub(crate) fn says(rt: &impl Abort, words: &mut [u64], bytes: &[u8], answer: Ans
     assert_eq!(rt; call(words, bytes), answer);
 }
 
-// Each call of one field, and its answer.
+/// Each call of one field, and its answer.
 pub(crate) fn all_say(rt: &impl Abort, words: &mut [u64], table: &[(u8, u32, Answer)]) {
     for (kind, value, answer) in table {
         says(rt, words, &ask(*kind, *value), *answer);
     }
 }
 
-// Rules that are laid one behind the other, the first as 0.
+/// Rules that are laid one behind the other, the first as 0.
 pub(crate) fn all_laid(rt: &impl Abort, words: &mut [u64], rules: &[(u8, u32, u32, u32)]) {
     for (i, (kind, from, second, last)) in rules.iter().enumerate() {
         let bytes = lay(*kind, *from, *second, *last);
@@ -66,7 +66,7 @@ pub(crate) fn all_laid(rt: &impl Abort, words: &mut [u64], rules: &[(u8, u32, u3
     }
 }
 
-// A call that is turned away leaves every word as it was.
+/// A call that is turned away leaves every word as it was.
 pub(crate) fn refuses(rt: &impl Abort, words: &mut [u64; WORDS], bytes: &[u8], refusal: Refusal) {
     let before = *words;
     says(rt, words, bytes, Answer::Refused(refusal));
@@ -95,7 +95,7 @@ pub(crate) fn none_laid(
     }
 }
 
-// A book of these rules answers so, and no question changes a word of it.
+/// A book of these rules answers so, and no question changes a word of it.
 pub(crate) fn answers(
     rt: &impl Abort,
     rules: &[(u8, u32, u32, u32)],
@@ -110,7 +110,7 @@ pub(crate) fn answers(
     Ok(())
 }
 
-// A book of 64 times one rule, up to the greatest bound.
+/// A book of 64 times one rule, up to the greatest bound.
 pub(crate) fn full_of(rt: &impl Abort, rule: (u8, u32, u32, u32)) -> Result<[u64; 2112], Fail> {
     let mut words = [7u64; 2112];
     open(&mut words, 64, MOST).ok().ok_or("not opened")?;

@@ -1,10 +1,10 @@
-// Sums that fade.
+//! Sums that fade.
 use crate::asking::*;
 use std::test::Fail;
 use wire::Answer;
 
-// A sum of 9 that fades by 1.2 of each unit above 5: it is used up at 12 1/2, and nothing is given or taken from 13 on. If it went
-// on below nothing, everybody below the bound would lose.
+/// A sum of 9 that fades by 1.2 of each unit above 5: it is used up at 12 1/2, and nothing is given or taken from 13 on. If it went
+/// on below nothing, everybody below the bound would lose.
 #[test]
 fn stops_at_nothing(rt: HostRuntime) -> Result<(), Fail> {
     let table = [
@@ -20,7 +20,7 @@ fn stops_at_nothing(rt: HostRuntime) -> Result<(), Fail> {
     answers(&rt, &[(FADE, 5, 12_000, 9)], 40, &table)
 }
 
-// A sum of 1 that is used up within the first unit above 5, at two thirds of it: of 6 as much is left as of 5.
+/// A sum of 1 that is used up within the first unit above 5, at two thirds of it: of 6 as much is left as of 5.
 #[test]
 fn within_its_first_unit(rt: HostRuntime) -> Result<(), Fail> {
     let alone = [
@@ -41,7 +41,7 @@ fn within_its_first_unit(rt: HostRuntime) -> Result<(), Fail> {
     answers(&rt, &rules, 40, &taxed)
 }
 
-// A sum of 6 that is used up exactly at 10, five units above its border.
+/// A sum of 6 that is used up exactly at 10, five units above its border.
 #[test]
 fn at_a_whole_unit(rt: HostRuntime) -> Result<(), Fail> {
     let table = [
@@ -55,7 +55,7 @@ fn at_a_whole_unit(rt: HostRuntime) -> Result<(), Fail> {
     answers(&rt, &[(FADE, 5, 12_000, 6)], 40, &table)
 }
 
-// A rate of 0 never uses it up, whatever else there is.
+/// A rate of 0 never uses it up, whatever else there is.
 #[test]
 fn never(rt: HostRuntime) -> Result<(), Fail> {
     let table = [
@@ -70,9 +70,9 @@ fn never(rt: HostRuntime) -> Result<(), Fail> {
     answers(&rt, &rules, 30, &table)
 }
 
-// A sum of 429,497 that fades by a ten-thousandth of each unit is used up at 4,294,970,000, which is 2,704 past 2^32: but for the
-// charge, net rises by 0.9999 a unit up to the bound. A charge of a million begins at half a billion: whoever earns one less is safe
-// from 501,000,100 on.
+/// A sum of 429,497 that fades by a ten-thousandth of each unit is used up at 4,294,970,000, which is 2,704 past 2^32: but for the
+/// charge, net rises by 0.9999 a unit up to the bound. A charge of a million begins at half a billion: whoever earns one less is safe
+/// from 501,000,100 on.
 #[test]
 fn past_32_bits(rt: HostRuntime) -> Result<(), Fail> {
     let table = [
@@ -88,8 +88,8 @@ fn past_32_bits(rt: HostRuntime) -> Result<(), Fail> {
     answers(&rt, &rules, MOST, &table)
 }
 
-// The greatest sum at the least rate above 0 lasts a thousand times as long as the bound: but for the charge, net rises by 0.9999 a
-// unit from 900,000,000 on.
+/// The greatest sum at the least rate above 0 lasts a thousand times as long as the bound: but for the charge, net rises by 0.9999 a
+/// unit from 900,000,000 on.
 #[test]
 fn far_past_the_bound(rt: HostRuntime) -> Result<(), Fail> {
     let table = [
@@ -105,7 +105,7 @@ fn far_past_the_bound(rt: HostRuntime) -> Result<(), Fail> {
     answers(&rt, &rules, MOST, &table)
 }
 
-// The farthest end that a fade can have, 1,001,000,000,000: it begins to fade at the greatest bound, so that nobody has less by it.
+/// The farthest end that a fade can have, 1,001,000,000,000: it begins to fade at the greatest bound, so that nobody has less by it.
 #[test]
 fn the_farthest_end(rt: HostRuntime) -> Result<(), Fail> {
     let table = [
@@ -117,7 +117,7 @@ fn the_farthest_end(rt: HostRuntime) -> Result<(), Fail> {
     answers(&rt, &[(FADE, MOST, 1, 100_000_000)], MOST, &table)
 }
 
-// Up to its border all of it is given: with the bound as its border nobody loses by it, and with one lower 39 does.
+/// Up to its border all of it is given: with the bound as its border nobody loses by it, and with one lower 39 does.
 #[test]
 fn around_the_bound(rt: HostRuntime) -> Result<(), Fail> {
     let at = [
@@ -136,8 +136,8 @@ fn around_the_bound(rt: HostRuntime) -> Result<(), Fail> {
     answers(&rt, &[(FADE, 39, 12_000, 9)], 40, &before)
 }
 
-// Two fades from one border: both together take 2.1 of each unit up to 10, where one is used up, and then the other takes 0.9 up to
-// 15.
+/// Two fades from one border: both together take 2.1 of each unit up to 10, where one is used up, and then the other takes 0.9 up to
+/// 15.
 #[test]
 fn two_from_one_border(rt: HostRuntime) -> Result<(), Fail> {
     let table = [

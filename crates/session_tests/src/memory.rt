@@ -1,10 +1,10 @@
-// Words that hold no opened book are refused as they are.
+//! Words that hold no opened book are refused as they are.
 use crate::asking::*;
 use std::process::Abort;
 use std::test::Fail;
 use wire::{Answer, Refusal};
 
-// A book of two rules, of which this is the second, with one word changed.
+/// A book of two rules, of which this is the second, with one word changed.
 fn changed(
     rt: &impl Abort,
     second: (u8, u32, u32, u32),
@@ -45,7 +45,7 @@ fn no_book(rt: HostRuntime) -> Result<(), Fail> {
     Ok(())
 }
 
-// Of the second rule, a rate, a sum or a fade: a kind that is none, borders that are no borders, numbers that are too large.
+/// Of the second rule, a rate, a sum or a fade: a kind that is none, borders that are no borders, numbers that are too large.
 #[test]
 fn no_rule(rt: HostRuntime) -> Result<(), Fail> {
     let slots = [
@@ -69,7 +69,7 @@ fn no_rule(rt: HostRuntime) -> Result<(), Fail> {
     Ok(())
 }
 
-// Nothing is asked of unused slots and scratch; a call that is accepted clears them.
+/// Nothing is asked of unused slots and scratch; a call that is accepted clears them.
 #[test]
 fn unused_words(rt: HostRuntime) -> Result<(), Fail> {
     let mut words = opened(2, 300)?;

@@ -1,10 +1,10 @@
-// What is opened, and what is not.
+//! What is opened, and what is not.
 use crate::asking::MOST;
 use session::open;
 use std::process::Abort;
 use std::test::Fail;
 
-// An opening that is refused leaves every word as it was. The refusal is told by its number and place, as they are written.
+/// An opening that is refused leaves every word as it was. The refusal is told by its number and place, as they are written.
 fn not_opened(
     rt: &impl Abort,
     size: usize,

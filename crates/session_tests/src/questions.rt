@@ -1,4 +1,4 @@
-// Left, row and safe.
+//! Left, row and safe.
 use crate::asking::*;
 use session::serve;
 use std::test::Fail;
@@ -17,7 +17,7 @@ fn without_rules(rt: HostRuntime) -> Result<(), Fail> {
     answers(&rt, &[], 300, &table)
 }
 
-// Rows one after the other: 12 alone doesn't lose between 9 and 13, since of 14 as much is left.
+/// Rows one after the other: 12 alone doesn't lose between 9 and 13, since of 14 as much is left.
 #[test]
 fn rows_on(rt: HostRuntime) -> Result<(), Fail> {
     let table = [
@@ -30,14 +30,14 @@ fn rows_on(rt: HostRuntime) -> Result<(), Fail> {
     answers(&rt, &rules, 30, &table)
 }
 
-// A tax of a fifth more than all, which only the bound ends: there is a loss that nothing makes good.
+/// A tax of a fifth more than all, which only the bound ends: there is a loss that nothing makes good.
 #[test]
 fn never_safe(rt: HostRuntime) -> Result<(), Fail> {
     let table = [(ROW, 0, Answer::Two(1, 10)), (SAFE, 0, Answer::Number(0))];
     answers(&rt, &[(TAKE, 0, MOST, 12_000)], 10, &table)
 }
 
-// What is given makes it good, until that is lifted.
+/// What is given makes it good, until that is lifted.
 #[test]
 fn made_good(rt: HostRuntime) -> Result<(), Fail> {
     let mut words = opened(2, 10)?;
@@ -57,8 +57,8 @@ fn made_good(rt: HostRuntime) -> Result<(), Fail> {
     Ok(())
 }
 
-// A fifth more than all of ten million units is taken, and of each unit above them a tenth is left: whoever earns nothing has as
-// much with thirty million.
+/// A fifth more than all of ten million units is taken, and of each unit above them a tenth is left: whoever earns nothing has as
+/// much with thirty million.
 #[test]
 fn up_to_the_greatest_bound(rt: HostRuntime) -> Result<(), Fail> {
     let table = [

@@ -1,11 +1,11 @@
-// Rules are laid and lifted.
+//! Rules are laid and lifted.
 use crate::asking::*;
 use session::open;
 use std::process::Abort;
 use std::test::Fail;
 use wire::{Answer, Refusal};
 
-// Out of range: borders out of order, or above 1,000,000,000, a fade's too; a rate above 20,000; a sum above 100,000,000.
+/// Out of range: borders out of order, or above 1,000,000,000, a fade's too; a rate above 20,000; a sum above 100,000,000.
 #[test]
 fn out_of_range(rt: HostRuntime) -> Result<(), Fail> {
     let mut words = opened(4, 5000)?;
@@ -39,7 +39,7 @@ fn out_of_range(rt: HostRuntime) -> Result<(), Fail> {
     Ok(())
 }
 
-// Rules that are just in range, and their slots.
+/// Rules that are just in range, and their slots.
 #[test]
 fn in_range(rt: HostRuntime) -> Result<(), Fail> {
     let mut words = opened(4, 5000)?;
@@ -85,7 +85,7 @@ fn no_room_for_more(rt: &impl Abort, words: &mut [u64]) {
     says(rt, words, &lay(TAKE, 0, 0, 0), out_of_range);
 }
 
-// 64 rules, of which each takes most: amounts have room for all, and one more is refused.
+/// 64 rules, of which each takes most: amounts have room for all, and one more is refused.
 #[test]
 fn full(rt: HostRuntime) -> Result<(), Fail> {
     let mut words = [7u64; 2116];
@@ -111,7 +111,7 @@ fn full(rt: HostRuntime) -> Result<(), Fail> {
     Ok(())
 }
 
-// The same for the other kinds: 64 times the most that each gives or takes.
+/// The same for the other kinds: 64 times the most that each gives or takes.
 #[test]
 fn most_in_and_out(rt: HostRuntime) -> Result<(), Fail> {
     let (all, before) = (10_000_000_000_000, 9_999_999_990_000);
@@ -146,7 +146,7 @@ fn no_room_at_all(rt: HostRuntime) -> Result<(), Fail> {
     Ok(())
 }
 
-// Four takes, of 1, 2, 3 and 4 ten-thousandths: what goes out of 1 is their sum.
+/// Four takes, of 1, 2, 3 and 4 ten-thousandths: what goes out of 1 is their sum.
 fn four(rt: &impl Abort) -> Result<[u64; WORDS], Fail> {
     let mut words = opened(4, 9)?;
     all_laid(
@@ -163,7 +163,7 @@ fn four(rt: &impl Abort) -> Result<[u64; WORDS], Fail> {
     Ok(words)
 }
 
-// The rates that are left, in their order, nothing behind them, and what they let out together.
+/// The rates that are left, in their order, nothing behind them, and what they let out together.
 fn lifted(rt: &impl Abort, number: u32, left: [u64; 3], out: u64) -> Result<(), Fail> {
     let mut words = four(rt)?;
     says(
@@ -196,7 +196,7 @@ fn lifts(rt: HostRuntime) -> Result<(), Fail> {
     Ok(())
 }
 
-// A book from which all is lifted has the words of one that was just opened.
+/// A book from which all is lifted has the words of one that was just opened.
 #[test]
 fn emptied(rt: HostRuntime) -> Result<(), Fail> {
     let mut words = four(&rt)?;

@@ -1,10 +1,10 @@
-// Sums that begin and end at once.
+//! Sums that begin and end at once.
 use crate::asking::*;
 use std::test::Fail;
 use wire::Answer;
 
-// A sum of 5 is given from 10 on, and ends one below the bound, at it, one above, or at a billion: only if it ends at the bound or
-// below does somebody lose, since the bound itself then no longer has it.
+/// A sum of 5 is given from 10 on, and ends one below the bound, at it, one above, or at a billion: only if it ends at the bound or
+/// below does somebody lose, since the bound itself then no longer has it.
 #[test]
 fn given_around_the_bound(rt: HostRuntime) -> Result<(), Fail> {
     let cases = [
@@ -24,7 +24,7 @@ fn given_around_the_bound(rt: HostRuntime) -> Result<(), Fail> {
     Ok(())
 }
 
-// The same taken: 6 to 9 lose wherever it ends, and the bound is without it only if it ends there or below.
+/// The same taken: 6 to 9 lose wherever it ends, and the bound is without it only if it ends there or below.
 #[test]
 fn taken_around_the_bound(rt: HostRuntime) -> Result<(), Fail> {
     let cases = [(19, 0), (20, 0), (21, 50_000), (MOST, 50_000)];
@@ -40,7 +40,7 @@ fn taken_around_the_bound(rt: HostRuntime) -> Result<(), Fail> {
     Ok(())
 }
 
-// A sum that begins at the bound is taken of it alone; one that begins above is nothing.
+/// A sum that begins at the bound is taken of it alone; one that begins above is nothing.
 #[test]
 fn begins_at_the_bound(rt: HostRuntime) -> Result<(), Fail> {
     let at = [
@@ -58,7 +58,7 @@ fn begins_at_the_bound(rt: HostRuntime) -> Result<(), Fail> {
     answers(&rt, &[(TAKE_SUM, 21, 22, 5)], 20, &above)
 }
 
-// No sum with an end can be given at a billion: it ends one before, and whoever earns 1 to 4 units less than a billion loses.
+/// No sum with an end can be given at a billion: it ends one before, and whoever earns 1 to 4 units less than a billion loses.
 #[test]
 fn up_to_a_billion(rt: HostRuntime) -> Result<(), Fail> {
     let table = [
@@ -71,7 +71,7 @@ fn up_to_a_billion(rt: HostRuntime) -> Result<(), Fail> {
     answers(&rt, &[(GIVE_SUM, 10, MOST, 5)], MOST, &table)
 }
 
-// Two charges begin at 10, one of 3 up to 20 and one of 2 up to 30.
+/// Two charges begin at 10, one of 3 up to 20 and one of 2 up to 30.
 #[test]
 fn two_begin_at_one_place(rt: HostRuntime) -> Result<(), Fail> {
     let table = [
@@ -87,7 +87,7 @@ fn two_begin_at_one_place(rt: HostRuntime) -> Result<(), Fail> {
     answers(&rt, &rules, 40, &table)
 }
 
-// A charge of 3 and a gift of 5 begin at 10; the gift ends first, at 15, and only that makes losers.
+/// A charge of 3 and a gift of 5 begin at 10; the gift ends first, at 15, and only that makes losers.
 #[test]
 fn taken_and_given_at_one_place(rt: HostRuntime) -> Result<(), Fail> {
     let table = [
@@ -101,7 +101,7 @@ fn taken_and_given_at_one_place(rt: HostRuntime) -> Result<(), Fail> {
     answers(&rt, &rules, 40, &table)
 }
 
-// One charge ends where the next begins: nothing changes there.
+/// One charge ends where the next begins: nothing changes there.
 #[test]
 fn one_behind_the_other(rt: HostRuntime) -> Result<(), Fail> {
     let table = [
@@ -115,8 +115,8 @@ fn one_behind_the_other(rt: HostRuntime) -> Result<(), Fail> {
     answers(&rt, &rules, 40, &table)
 }
 
-// 64 of the greatest sums, taken from 1 on: no gross from 1 to 999,999,999 leaves as much as 0 does, and at a billion none is
-// taken.
+/// 64 of the greatest sums, taken from 1 on: no gross from 1 to 999,999,999 leaves as much as 0 does, and at a billion none is
+/// taken.
 #[test]
 fn most_taken_at_once(rt: HostRuntime) -> Result<(), Fail> {
     let mut words = full_of(&rt, (TAKE_SUM, 1, MOST, 100_000_000))?;

@@ -1,9 +1,9 @@
-// The worked books of `raise::worked`, and a family's.
+//! The worked books of `raise::worked`, and a family's.
 use crate::asking::*;
 use std::test::Fail;
 use wire::Answer;
 
-// A tax of all of each unit up to 10: nobody loses, and nobody wins below 10.
+/// A tax of all of each unit up to 10: nobody loses, and nobody wins below 10.
 #[test]
 fn full_tax(rt: HostRuntime) -> Result<(), Fail> {
     let table = [
@@ -15,7 +15,7 @@ fn full_tax(rt: HostRuntime) -> Result<(), Fail> {
     answers(&rt, &[(TAKE, 0, 10, 10_000)], 20, &table)
 }
 
-// One of a fifth more: 0 to 9 lose. Of 10 two less are left than of 0, and of 12 as much.
+/// One of a fifth more: 0 to 9 lose. Of 10 two less are left than of 0, and of 12 as much.
 #[test]
 fn steep_tax(rt: HostRuntime) -> Result<(), Fail> {
     let table = [
@@ -31,7 +31,7 @@ fn steep_tax(rt: HostRuntime) -> Result<(), Fail> {
     answers(&rt, &[(TAKE, 0, 10, 12_000)], 20, &table)
 }
 
-// A charge of 3 from 10 on, up to before 20: 8 and 9 lose. Of 9 as much is left as of 12, and of 10 and 11 less.
+/// A charge of 3 from 10 on, up to before 20: 8 and 9 lose. Of 9 as much is left as of 12, and of 10 and 11 less.
 #[test]
 fn charge(rt: HostRuntime) -> Result<(), Fail> {
     let table = [
@@ -45,8 +45,8 @@ fn charge(rt: HostRuntime) -> Result<(), Fail> {
     answers(&rt, &[(TAKE_SUM, 10, 20, 3)], 30, &table)
 }
 
-// A fade takes nine tenths of each unit between 5 and 15, and a tax two tenths more: 5 loses with 6, and of 4 more is left than of
-// 14 and 15.
+/// A fade takes nine tenths of each unit between 5 and 15, and a tax two tenths more: 5 loses with 6, and of 4 more is left than of
+/// 14 and 15.
 #[test]
 fn taxed_fade(rt: HostRuntime) -> Result<(), Fail> {
     let table = [
@@ -70,8 +70,8 @@ const FAMILY: [(u8, u32, u32, u32); 4] = [
     (FADE, 500, 3_000, 300),
 ];
 
-// A tax of a fifth above 1,000 and of two above 3,000; 200 below 1,500, and 300 that fade by 30 % above 500: 1,350 are left of
-// 1,000, 1,599.50 of 1,499, 1,400 of 1,500 and 2,600 of 3,000.
+/// A tax of a fifth above 1,000 and of two above 3,000; 200 below 1,500, and 300 that fade by 30 % above 500: 1,350 are left of
+/// 1,000, 1,599.50 of 1,499, 1,400 of 1,500 and 2,600 of 3,000.
 #[test]
 fn left_to_a_family(rt: HostRuntime) -> Result<(), Fail> {
     let table = [
@@ -86,7 +86,7 @@ fn left_to_a_family(rt: HostRuntime) -> Result<(), Fail> {
     answers(&rt, &FAMILY, 5_000, &table)
 }
 
-// 1,101 to 1,499 lose. Whoever earns 1,300 has 1,500 left, of 1,480 more and of 1,500 less, and is safe only from 1,625 on.
+/// 1,101 to 1,499 lose. Whoever earns 1,300 has 1,500 left, of 1,480 more and of 1,500 less, and is safe only from 1,625 on.
 #[test]
 fn offered_to_a_family(rt: HostRuntime) -> Result<(), Fail> {
     let table = [
@@ -101,7 +101,7 @@ fn offered_to_a_family(rt: HostRuntime) -> Result<(), Fail> {
     answers(&rt, &FAMILY, 5_000, &table)
 }
 
-// Without the 200, nobody loses, and the fade is the third rule. Laid again as the last rule, they make the same losers.
+/// Without the 200, nobody loses, and the fade is the third rule. Laid again as the last rule, they make the same losers.
 #[test]
 fn lifted_and_laid_again(rt: HostRuntime) -> Result<(), Fail> {
     let mut words = opened(4, 5_000)?;

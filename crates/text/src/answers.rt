@@ -1,4 +1,4 @@
-// Answers as text: one line for each answer, and amounts in units with four places after the point.
+//! Answers as text: one line for each answer, and amounts in units with four places after the point.
 ghost use Rattle.std.specs.Prelude.{◌≡◌, ◌-◌, ◌++◌, None, Some, string_bytes, codes, OnErr, OnOk, ◌==◌};
 ghost use Rattle.raise.specs.Rules.{pick};
 ghost use Rattle.wire.specs.Meaning.{asks_or, says};
@@ -8,34 +8,34 @@ use std::alloc::AllocError;
 use std::fmt;
 use wire::{Answer, Call, Garbled};
 
-// What comes in and what goes out, in ten-thousandths of a unit; shown as the first less the second. The two of `book::Flows`
-// once more: only the crate of a type can say how it is shown, and `book` says nothing of text.
+/// What comes in and what goes out, in ten-thousandths of a unit; shown as the first less the second. The two of `book::Flows`
+/// once more: only the crate of a type can say how it is shown, and `book` says nothing of text.
 #[derive(Clone, Copy, Debug, PartialEq, Eq)]
 pub struct Amount {
     pub inflow: u64,
     pub outflow: u64,
 }
 
-// Ten-thousandths of a unit, by units and four digits.
+/// Ten-thousandths of a unit, by units and four digits.
 #[derive(Clone, Copy)]
 pub(crate) struct Parted(pub(crate) u64);
 
-// The first and the last earning of a row.
+/// The first and the last earning of a row.
 #[derive(Clone, Copy)]
 pub(crate) struct Row {
     pub(crate) first: u64,
     pub(crate) last: u64,
 }
 
-// The earning from which on it is safe.
+/// The earning from which on it is safe.
 #[derive(Clone, Copy)]
 pub(crate) struct SafeFrom(pub(crate) u64);
 
-// A value, or "none".
+/// A value, or "none".
 #[derive(Clone, Copy)]
 struct OrNone<T>(Option<T>);
 
-// What was asked and what was answered.
+/// What was asked and what was answered.
 #[derive(Clone, Copy, Debug, PartialEq, Eq)]
 pub struct Line {
     pub asked: Result<Call, Garbled>,
@@ -43,7 +43,7 @@ pub struct Line {
 }
 
 impl Row {
-    // The row of an answer, whose numbers are each one more than an earning, and 0 where there is no row.
+    /// The row of an answer, whose numbers are each one more than an earning, and 0 where there is no row.
     fn told(first: u64, last: u64) -> Option<Row>
         ensures { result ≡ pick (first == 0) None (Some (record { first = first - 1; last = last - 1 })) }
     {
@@ -54,7 +54,7 @@ impl Row {
 }
 
 impl SafeFrom {
-    // The earning of an answer, whose number is one more than it, and 0 where there is none.
+    /// The earning of an answer, whose number is one more than it, and 0 where there is none.
     fn told(number: u64) -> Option<SafeFrom>
         ensures { result ≡ pick (number == 0) None (Some (record { 0 = number - 1 })) }
     {
@@ -127,7 +127,7 @@ impl fmt::Display for Line {
     }
 }
 
-// Appends the line and a newline; where memory runs out, nothing. Amounts that are shown alike are the same.
+/// Appends the line and a newline; where memory runs out, nothing. Amounts that are shown alike are the same.
 #[tactic(auto, using(crate::proofs::Amounts::amounts_differ))]
 pub fn write_line(out: &mut String, told: &Line) -> Result<(), AllocError>
     ensures written { OnOk result (string_bytes out.new ≡ string_bytes out.old ++ (line (asks_or told.now.asked) (says told.now.answer) ++ codes "\n")) }

@@ -1,8 +1,8 @@
-// Where a part of a line ends.
+//! Where a part of a line ends.
 ghost use Rattle.std.specs.Prelude.{◌≡◌, ◌<◌, [], ◌∷◌, length, MatchOption};
 ghost use Rattle.text.specs.Words.{before, onward, stops, words_in};
 
-// What ends a part: the byte that begins the next.
+/// What ends a part: the byte that begins the next.
 #[derive(Clone, Copy)]
 pub(crate) enum Stop {
     Comment,
@@ -25,7 +25,7 @@ impl Stop {
     }
 }
 
-// The part before the first byte that ends it, and from that byte on.
+/// The part before the first byte that ends it, and from that byte on.
 #[tactic(auto, using(crate::proofs::Pieces::cut_before, crate::proofs::Pieces::cut_onward))]
 pub(crate) fn cut(bytes: &[u8], stop: Stop) -> (&[u8], &[u8])
     ensures before { result.0.now ≡ before (stops stop) bytes.now }
@@ -38,7 +38,7 @@ pub(crate) fn cut(bytes: &[u8], stop: Stop) -> (&[u8], &[u8])
     bytes.split_at(count)
 }
 
-// The first word, and what follows it; none where there are only blanks.
+/// The first word, and what follows it; none where there are only blanks.
 pub(crate) fn next_word(text: &[u8]) -> Option<(&[u8], &[u8])>
     ensures { MatchOption result (words_in text.now ≡ []) (λ p. (words_in text.now ≡ p.0.now ∷ words_in p.1.now) × (length p.1.now < length text.now)) }
 {

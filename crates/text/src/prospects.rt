@@ -1,26 +1,26 @@
-// Rows with the most that is lost in each, and earnings with what more would do.
+//! Rows with the most that is lost in each, and earnings with what more would do.
 ghost use Rattle.std.specs.Prelude.{Some, codes};
 ghost use Rattle.text.specs.Shown.{amount, losing_row, outlook_text, prospect};
 
 use crate::answers::{Amount, Parted, Row, SafeFrom};
 use std::fmt;
 
-// A row of those who lose by earning more, and the most that is lost in it, in ten-thousandths.
+/// A row of those who lose by earning more, and the most that is lost in it, in ten-thousandths.
 #[derive(Clone, Copy, Debug, PartialEq, Eq)]
-pub struct LosingRow {
+pub struct RowLine {
     pub first: u32,
     pub last: u32,
     pub most: u64,
 }
 
-// Whether somebody loses by earning more; and if so, from where on it is safe to, if from anywhere.
+/// Whether somebody loses by earning more; and if so, from where on it is safe to, if from anywhere.
 #[derive(Clone, Copy, Debug, PartialEq, Eq)]
 pub enum Outlook {
     NeverLoses,
     Loses { safe_from: Option<u32> },
 }
 
-// An earning, what is left of it, and what more would do.
+/// An earning, what is left of it, and what more would do.
 #[derive(Clone, Copy, Debug, PartialEq, Eq)]
 pub struct Prospect {
     pub gross: u32,
@@ -28,7 +28,7 @@ pub struct Prospect {
     pub outlook: Outlook,
 }
 
-impl fmt::Display for LosingRow {
+impl fmt::Display for RowLine {
     ghost output = { λ r. Some (losing_row r.first r.last r.most) };
 
     fn fmt<W: fmt::Write>(&self, f: &mut fmt::Formatter<W>) -> fmt::Result {

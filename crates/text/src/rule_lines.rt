@@ -1,4 +1,4 @@
-// Rules as lines, both ways.
+//! Rules as lines, both ways.
 ghost use Rattle.std.specs.Prelude.{◌≡◌, List, Some};
 ghost use Rattle.wire.specs.Meaning.{meant};
 ghost use Rattle.text.specs.RuleLines.{lays, span_of, rate_of, flow_of, taken, given, said_by, line_says, said, percentage, line_text, ReadsBack, FormsRead};
@@ -8,26 +8,26 @@ use crate::words::{Word, read_words};
 use std::fmt;
 use wire::Rule;
 
-// The end of what is given or taken "on": no rule reaches beyond, and a sum ends one before it.
+/// The end of what is given or taken "on": no rule reaches beyond, and a sum ends one before it.
 const ON: u32 = 1_000_000_000;
 
-// What a line says.
+/// What a line says.
 #[derive(Clone, Copy, Debug, PartialEq, Eq)]
 pub enum RuleLine {
-    // nothing, or a comment alone
+    /// nothing, or a comment alone
     Empty,
     Bound(u32),
     Rule(Rule),
 }
 
-// From where on, up to where.
+/// From where on, up to where.
 #[derive(Clone, Copy)]
 struct Span {
     from: u32,
     to: u32,
 }
 
-// What is taken or given: so many ten-thousandths of each unit, or a sum.
+/// What is taken or given: so many ten-thousandths of each unit, or a sum.
 #[derive(Clone, Copy)]
 enum Flow {
     Rate(Span, u32),
@@ -71,7 +71,7 @@ fn read_span(words: &[Word]) -> Option<Span>
     }
 }
 
-// A percentage, in ten-thousandths.
+/// A percentage, in ten-thousandths.
 fn read_rate(word: Word) -> Option<u32>
     ensures { result ≡ rate_of word }
 {
@@ -119,7 +119,7 @@ fn read_rule(words: &[Word]) -> Option<RuleLine>
     }
 }
 
-// What a line says, by its words.
+/// What a line says, by its words.
 #[tactic(auto, using(crate::proofs::ReadBack::too_many), unfolding(crate::specs::RuleLines::line_says))]
 fn parse_line(line: &[u8]) -> Option<RuleLine>
     ensures { said result ≡ line_says line.now }
@@ -127,8 +127,8 @@ fn parse_line(line: &[u8]) -> Option<RuleLine>
     read_rule(read_words(line)?.as_slice())
 }
 
-// What a line says, without its newline; none where it can't be read. The line that is written of a bound or of a rule reads back,
-// and each form of a line says what it is to say.
+/// What a line says, without its newline; none where it can't be read. The line that is written of a bound or of a rule reads back,
+/// and each form of a line says what it is to say.
 #[tactic(auto, using(crate::proofs::ReadBack::reads_back, crate::proofs::ReadBack::forms_read))]
 pub fn read_line(line: &[u8]) -> Option<RuleLine>
     ensures said { said result ≡ line_says line.now }
@@ -138,7 +138,7 @@ pub fn read_line(line: &[u8]) -> Option<RuleLine>
     parse_line(line)
 }
 
-// A rate in ten-thousandths, as a percentage.
+/// A rate in ten-thousandths, as a percentage.
 #[derive(Clone, Copy)]
 struct Percentage(u32);
 

@@ -1,4 +1,4 @@
-// The words of a line.
+//! The words of a line.
 ghost use Rattle.std.specs.Prelude.{◌≡◌, ◌<◌, length, Some, None, MatchOption};
 ghost use Rattle.std.specs.Str.{bytes_eq};
 ghost use Rattle.text.specs.Words.{number_word, word_of, words_of};
@@ -7,7 +7,7 @@ use crate::cuts::{Stop, cut, next_word};
 use crate::numbers::{hundredths, in_hundredths, read_number};
 use arrayvec::ArrayVec;
 
-// A word, by what it says.
+/// A word, by what it says.
 #[derive(Clone, Copy, Default)]
 pub(crate) enum Word {
     Bound,
@@ -22,13 +22,13 @@ pub(crate) enum Word {
     Above,
     Percent,
     Number(u32),
-    // with a point, in hundredths
+    /// with a point, in hundredths
     Decimal(u32),
     #[default]
     Other,
 }
 
-// The most words that a line has that can be read: `fade 300 at 30 % above 500`, or `take 20 % from 1000 to 3000`.
+/// The most words that a line has that can be read: `fade 300 at 30 % above 500`, or `take 20 % from 1000 to 3000`.
 pub(crate) const MOST_WORDS: usize = 7;
 
 fn spells(word: &[u8], key: &str) -> bool
@@ -38,7 +38,7 @@ fn spells(word: &[u8], key: &str) -> bool
 }
 
 impl Word {
-    // A number, with a point in it or without.
+    /// A number, with a point in it or without.
     fn number(word: &[u8]) -> Option<Word>
         ensures { result ≡ number_word word.now }
     {
@@ -81,7 +81,7 @@ impl Word {
     }
 }
 
-// The words of a line, up to its comment; none where there are more than any line has.
+/// The words of a line, up to its comment; none where there are more than any line has.
 #[tactic(auto, unfolding(crate::specs::Words::words_of))]
 pub(crate) fn read_words(line: &[u8]) -> Option<ArrayVec<Word, MOST_WORDS>>
     ensures { MatchOption result (7 < length (words_of line.now)) (λ words. words.items ≡ words_of line.now) }

@@ -1,4 +1,4 @@
-// Tests of the lines, as tables. They stand in a crate of their own, since a crate with tests is proved twice.
+//! Tests of the lines, as tables. They stand in a crate of their own, since a crate with tests is proved twice.
 #![tactic(auto)]
 
 #[cfg(test)]

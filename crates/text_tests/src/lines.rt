@@ -1,4 +1,4 @@
-// Answers as text.
+//! Answers as text.
 use std::process::Abort;
 use std::test::Fail;
 use text::{Amount, Line, write_line};

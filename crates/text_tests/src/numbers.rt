@@ -1,4 +1,4 @@
-// Numbers on their own, and at each place of a line.
+//! Numbers on their own, and at each place of a line.
 use std::process::Abort;
 use std::test::Fail;
 use text::{RuleLine, read_line, read_number};
@@ -37,7 +37,7 @@ fn alone(rt: HostRuntime) {
     }
 }
 
-// The word can't be read at any place where a whole number stands.
+/// The word can't be read at any place where a whole number stands.
 fn no_whole_number(rt: &(impl Abort + AllocGlobal), word: &str) -> Result<(), Fail> {
     let alloc = rt.alloc();
     let lines = [
@@ -80,7 +80,7 @@ fn no_whole_numbers(rt: HostRuntime) -> Result<(), Fail> {
     Ok(())
 }
 
-// The word can't be read at any place where a percentage stands.
+/// The word can't be read at any place where a percentage stands.
 #[test]
 fn no_percentages(rt: HostRuntime) -> Result<(), Fail> {
     let alloc = rt.alloc();

@@ -1,4 +1,4 @@
-// Lines that can be read, and what they say.
+//! Lines that can be read, and what they say.
 use std::process::Abort;
 use text::{RuleLine, read_line};
 use wire::Rule;

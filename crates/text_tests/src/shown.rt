@@ -1,4 +1,4 @@
-// Lines as they are written, and that each reads back.
+//! Lines as they are written, and that each reads back.
 use std::process::Abort;
 use std::test::Fail;
 use text::{RuleLine, read_line};

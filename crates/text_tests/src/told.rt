@@ -1,7 +1,7 @@
-// What is told of rows and of earnings.
+//! What is told of rows and of earnings.
 use std::process::Abort;
 use std::test::Fail;
-use text::{Amount, LosingRow, Outlook, Prospect};
+use text::{Amount, Outlook, Prospect, RowLine};
 
 #[test]
 fn losing_rows(rt: HostRuntime) -> Result<(), Fail> {
@@ -16,13 +16,13 @@ fn losing_rows(rt: HostRuntime) -> Result<(), Fail> {
         ),
     ];
     for (first, last, most, text) in table {
-        let row = LosingRow { first, last, most };
+        let row = RowLine { first, last, most };
         assert_eq!(rt; row.to_string(rt.alloc())?.as_str(), text);
     }
     Ok(())
 }
 
-// An earning, what comes in and goes out with it, what more would do, and the line.
+/// An earning, what comes in and goes out with it, what more would do, and the line.
 type Told<'a> = (u32, u64, u64, Outlook, &'a str);
 
 fn tells(rt: &(impl Abort + AllocGlobal), table: &[Told<'_>]) -> Result<(), Fail> {

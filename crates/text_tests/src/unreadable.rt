@@ -1,4 +1,4 @@
-// Lines that can't be read, each for one reason.
+//! Lines that can't be read, each for one reason.
 use std::process::Abort;
 use text::read_line;
 

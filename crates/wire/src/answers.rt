@@ -1,4 +1,4 @@
-// Answers and refusals, and their 24 bytes.
+//! Answers and refusals, and their 24 bytes.
 ghost use Rattle.std.specs.Prelude.{◌≡◌, ◌≢◌, [], ◌∷◌, length, MatchOption};
 ghost use Rattle.wire.specs.declared.answers.Refusal.TheVariants.{Unreadable};
 ghost use Rattle.wire.specs.Fields.{number_at};
@@ -6,34 +6,26 @@ ghost use Rattle.wire.specs.Meaning.{refusal_number, refusal_place, says, says_i
 ghost use Rattle.wire.specs.AnswerBytes.{ReadsRefusal, answer_numbers, answer_bytes, answer_of, AnswersReadBack, OnlyAnswersRead, RefusalsRead};
 
 use crate::calls::Garbled;
-use thiserror::Error;
 
-// Why a call or an opening was turned away.
-#[derive(Clone, Copy, Debug, PartialEq, Eq, Error)]
+/// Why a call or an opening was turned away.
+#[derive(Clone, Copy, Debug, PartialEq, Eq)]
 pub enum Refusal {
-    // 1: the bytes are no call, from this place on
-    #[error("the bytes are no call from byte {place} on")]
+    /// 1: the bytes are no call, from this place on
     Unreadable { place: u64 },
-    // 2
-    #[error("a rule out of range, or an earning above the bound")]
+    /// 2
     OutOfRange,
-    // 3 at 0 and 1, at an opening
-    #[error("a limit of more than 64 rules")]
+    /// 3 at 0 and 1, at an opening
     TooManyRules,
-    #[error("a bound above 1,000,000,000")]
     BoundTooHigh,
-    // 3 at 2: memory smaller than is asked for, or that holds no opened book
-    #[error("memory that is too small, or holds no opened book")]
+    /// 3 at 2: memory smaller than is asked for, or that holds no opened book
     MemoryTooSmall,
-    // 4
-    #[error("a rule that is not there")]
+    /// 4
     NoSuchRule,
-    // 5
-    #[error("more rules than the limit")]
+    /// 5
     BookFull,
 }
 
-// What 24 bytes say. A refusal is one of the cases here, as it is among bytes; before that, a call comes to a `Result`.
+/// What 24 bytes say. A refusal is one of the cases here, as it is among bytes; before that, a call comes to a `Result`.
 #[derive(Clone, Copy, Debug, PartialEq, Eq)]
 pub enum Answer {
     Refused(Refusal),
@@ -42,7 +34,7 @@ pub enum Answer {
 }
 
 impl Refusal {
-    // The number and the place by which bytes and lines tell a refusal: methods, since a `From` would give both at once.
+    /// The number and the place by which bytes and lines tell a refusal: methods, since a `From` would give both at once.
     pub fn number(self) -> u64
         ensures { result ≡ refusal_number self }
     {
@@ -68,9 +60,8 @@ impl Refusal {
     }
 }
 
-// A number and a place that no refusal has.
-#[derive(Clone, Copy, Debug, PartialEq, Eq, Error)]
-#[error("no refusal has the number {number} and the place {place}")]
+/// A number and a place that no refusal has.
+#[derive(Clone, Copy, Debug, PartialEq, Eq)]
 pub struct UnknownRefusal {
     pub number: u64,
     pub place: u64,
@@ -107,7 +98,7 @@ impl From<Garbled> for Refusal {
 }
 
 impl Answer {
-    // The three numbers that say it. No `From`, which would make a step of the format public.
+    /// The three numbers that say it. No `From`, which would make a step of the format public.
     fn numbers(self) -> [u64; 3]
         ensures { result ≡ answer_numbers (says self) }
     {
@@ -118,7 +109,7 @@ impl Answer {
         }
     }
 
-    // Named, as `from_bytes`, for what std calls the like.
+    /// Named, as `from_bytes`, for what std calls the like.
     pub fn to_bytes(self) -> [u8; 24]
         ensures { result ≡ answer_bytes (says self) }
     {
@@ -127,7 +118,7 @@ impl Answer {
         bytes
     }
 
-    // The answer that the bytes are, apart from `from_bytes`, which would owe its theorems anew at each of these seven returns.
+    /// The answer that the bytes are, apart from `from_bytes`, which would owe its theorems anew at each of these seven returns.
     fn parse(bytes: &[u8]) -> Option<Answer>
         ensures { says_if result ≡ answer_of bytes.now }
     {
@@ -140,8 +131,8 @@ impl Answer {
         }
     }
 
-    // The answer that the bytes are, if they are one, all of them. What was written is read back, and only an answer's
-    // own bytes are read as it.
+    /// The answer that the bytes are, if they are one, all of them. What was written is read back, and only an answer's
+    /// own bytes are read as it.
     pub fn from_bytes(bytes: &[u8]) -> Option<Answer>
         ensures answer { says_if result ≡ answer_of bytes.now }
         ensures back { AnswersReadBack }
@@ -152,7 +143,7 @@ impl Answer {
     }
 }
 
-// The three numbers that bytes are, if there are 24 bytes, low byte first.
+/// The three numbers that bytes are, if there are 24 bytes, low byte first.
 fn three_numbers(bytes: &[u8]) -> Option<[u64; 3]>
     ensures { MatchOption result (length bytes.now ≢ 24) (λ numbers. (length bytes.now ≡ 24) × (numbers ≡ number_at 8 bytes.now 0 ∷ (number_at 8 bytes.now 8 ∷ (number_at 8 bytes.now 16 ∷ [])))) }
 {

@@ -1,4 +1,4 @@
-// Rules and calls, and how they are read from bytes.
+//! Rules and calls, and how they are read from bytes.
 ghost use Rattle.std.specs.Prelude.{◌≡◌, ◌+◌, true, length, Some, None, nat_lt};
 ghost use Rattle.raise.specs.Rules.{pick, takes};
 ghost use Rattle.raise.specs.Calls.{rule_number, lays};
@@ -8,9 +8,8 @@ ghost use Rattle.wire.specs.Meaning.{meant, kind_number, meant_or, field_or, ask
 ghost use Rattle.wire.specs.CallBytes.{numbers, rule_fields, call_bytes, rule_from, rule_of, laid, one_field, call_of, CallsReadBack, CallsDiffer, OnlyCallsRead, PlaceRight};
 
 use crate::kinds::RuleKind;
-use thiserror::Error;
 
-// A rule; rates are in ten-thousandths of a unit, sums in units.
+/// A rule; rates are in ten-thousandths of a unit, sums in units.
 #[derive(Clone, Copy, Debug, PartialEq, Eq)]
 pub enum Rule {
     Take { from: u32, to: u32, rate: u32 },
@@ -23,7 +22,7 @@ pub enum Rule {
 impl Default for Rule {
     ghost is_default = { λ r. meant r ≡ takes 0 0 0 };
 
-    // Stands in the unused places of a book. It takes nothing, and is not in range.
+    /// Stands in the unused places of a book. It takes nothing, and is not in range.
     fn default() -> Rule {
         Rule::Take {
             from: 0,
@@ -33,7 +32,7 @@ impl Default for Rule {
     }
 }
 
-// What is asked: a rule laid or lifted, or a question about an earning.
+/// What is asked: a rule laid or lifted, or a question about an earning.
 #[derive(Clone, Copy, Debug, PartialEq, Eq)]
 pub enum Call {
     Lay(Rule),
@@ -43,9 +42,8 @@ pub enum Call {
     Safe(u32),
 }
 
-// Bytes that are no call, by the place of the first that doesn't fit.
-#[derive(Clone, Copy, Debug, PartialEq, Eq, Error)]
-#[error("the bytes are no call from byte {place} on")]
+/// Bytes that are no call, by the place of the first that doesn't fit.
+#[derive(Clone, Copy, Debug, PartialEq, Eq)]
 pub struct Garbled {
     pub place: u64,
 }
@@ -64,8 +62,8 @@ impl Rule {
         }
     }
 
-    // Its three numbers, in the order of its fields. With `kind` the way back from `RuleKind::rule`, and like it no `From`, which
-    // takes one value alone.
+    /// Its three numbers, in the order of its fields. With `kind` the way back from `RuleKind::rule`, and like it no `From`, which
+    /// takes one value alone.
     #[tactic(auto, unfolding(raise::specs::Promise::readable_rule))]
     pub fn numbers(self) -> [u32; 3]
         ensures numbers { result ≡ numbers (meant self) }
@@ -79,7 +77,7 @@ impl Rule {
     }
 }
 
-// A rule's three numbers, four bytes each.
+/// A rule's three numbers, four bytes each.
 fn rule_fields(rule: Rule) -> [u8; 12]
     ensures fields { result ≡ rule_fields (meant rule) }
     ensures fit { readable_rule (meant rule) ≡ true }
@@ -89,7 +87,7 @@ fn rule_fields(rule: Rule) -> [u8; 12]
     bytes
 }
 
-// The kind of the call, that of the rule, and its fields.
+/// The kind of the call, that of the rule, and its fields.
 #[tactic(auto, unfolding(raise::specs::Calls::rule_number))]
 fn write_lay(rule: Rule) -> [u8; 14]
     ensures bytes { result ≡ call_bytes (lays (meant rule)) }
@@ -101,7 +99,7 @@ fn write_lay(rule: Rule) -> [u8; 14]
     bytes
 }
 
-// The bytes of the call that lays a rule. They read back as that call.
+/// The bytes of the call that lays a rule. They read back as that call.
 #[tactic(auto, using(crate::proofs::CallLaws::laid_back))]
 pub fn lay_bytes(rule: Rule) -> [u8; 14]
     ensures bytes { result ≡ call_bytes (lays (meant rule)) }
@@ -110,7 +108,7 @@ pub fn lay_bytes(rule: Rule) -> [u8; 14]
     write_lay(rule)
 }
 
-// The field at `at`, low byte first, if its four bytes are there.
+/// The field at `at`, low byte first, if its four bytes are there.
 pub(crate) fn field(bytes: &[u8], at: usize) -> Option<u32>
     ensures { result ≡ pick (nat_lt (length bytes.now) (at + 4)) None (Some (number_at 4 bytes.now at)) }
 {
@@ -118,7 +116,7 @@ pub(crate) fn field(bytes: &[u8], at: usize) -> Option<u32>
     Some(u32::from_le_bytes(*four))
 }
 
-// Bytes that end too early: the place is their number.
+/// Bytes that end too early: the place is their number.
 fn ends_early(bytes: &[u8]) -> Garbled
     ensures { result.place ≡ length bytes.now }
 {
@@ -127,8 +125,8 @@ fn ends_early(bytes: &[u8]) -> Garbled
     Garbled { place }
 }
 
-// The rule of a kind from 0 to 4, by its three numbers; any other kind counts as 4. It takes a number and no `RuleKind`, so that
-// it asks nothing of who calls it.
+/// The rule of a kind from 0 to 4, by its three numbers; any other kind counts as 4. It takes a number and no `RuleKind`, so that
+/// it asks nothing of who calls it.
 pub fn rule_of_kind(kind: u8, from: u32, second: u32, last: u32) -> Rule
     ensures { meant result ≡ rule_from kind from second last }
 {
@@ -136,7 +134,7 @@ pub fn rule_of_kind(kind: u8, from: u32, second: u32, last: u32) -> Rule
     kind.rule([from, second, last])
 }
 
-// The rule that a part of a call's bytes is, all of it.
+/// The rule that a part of a call's bytes is, all of it.
 fn read_rule(part: &[u8]) -> Result<Rule, Garbled>
     ensures { meant_or result ≡ rule_of part.now }
 {
@@ -161,7 +159,7 @@ fn read_rule(part: &[u8]) -> Result<Rule, Garbled>
     Ok(kind.rule([from, second, last]))
 }
 
-// The one field of a call, and nothing after it.
+/// The one field of a call, and nothing after it.
 fn read_field(bytes: &[u8]) -> Result<u32, Garbled>
     ensures { field_or result ≡ one_field bytes.now }
 {
@@ -174,7 +172,7 @@ fn read_field(bytes: &[u8]) -> Result<u32, Garbled>
     Ok(value)
 }
 
-// The rule that is laid, from the part of the bytes after the kind of the call.
+/// The rule that is laid, from the part of the bytes after the kind of the call.
 fn read_lay(part: &[u8]) -> Result<Call, Garbled>
     ensures { asks_or result ≡ laid (rule_of part.now) }
 {
@@ -184,7 +182,7 @@ fn read_lay(part: &[u8]) -> Result<Call, Garbled>
     Ok(Call::Lay(rule))
 }
 
-// The call that the bytes are, apart from `read_call`, which would owe its theorems anew at each of these eleven returns.
+/// The call that the bytes are, apart from `read_call`, which would owe its theorems anew at each of these eleven returns.
 fn parse(bytes: &[u8]) -> Result<Call, Garbled>
     ensures { asks_or result ≡ call_of bytes.now }
 {
@@ -198,9 +196,9 @@ fn parse(bytes: &[u8]) -> Result<Call, Garbled>
     }
 }
 
-// The call that the bytes are, all of them, or the place of the first that doesn't fit.
-// A call that was written is read back, two calls have different bytes, only a call's own bytes are read as it, and the
-// place is right.
+/// The call that the bytes are, all of them, or the place of the first that doesn't fit.
+/// A call that was written is read back, two calls have different bytes, only a call's own bytes are read as it, and the
+/// place is right.
 pub fn read_call(bytes: &[u8]) -> Result<Call, Garbled>
     ensures call { asks_or result ≡ call_of bytes.now }
     ensures back { CallsReadBack }

@@ -1,4 +1,4 @@
-// A file of calls: its head, and the cut into calls.
+//! A file of calls: its head, and the cut into calls.
 ghost use Rattle.std.specs.Prelude.{◌≡◌, ◌<◌, ◌≤◌, length, MatchOption};
 ghost use Rattle.wire.specs.Fields.{number_at};
 ghost use Rattle.std.specs.Iterator.{YieldsFirstRef, item_count};
@@ -6,14 +6,14 @@ ghost use Rattle.wire.specs.Files.{first_call, after_call, calls_in, calls_left,
 
 use crate::calls::field;
 
-// The limit of rules and the bound that a file begins with.
+/// The limit of rules and the bound that a file begins with.
 #[derive(Clone, Copy, Debug, PartialEq, Eq)]
 pub struct Head {
     pub rules: u32,
     pub bound: u32,
 }
 
-// The head of a file, if the file has all of it.
+/// The head of a file, if the file has all of it.
 pub fn read_head(file: &[u8]) -> Option<Head>
     ensures { MatchOption result (length file.now < 8) (λ h. (8 ≤ length file.now) × (h.rules ≡ number_at 4 file.now 0) × (h.bound ≡ number_at 4 file.now 4)) }
 {
@@ -22,8 +22,8 @@ pub fn read_head(file: &[u8]) -> Option<Head>
     Some(Head { rules, bound })
 }
 
-// The first call of what follows the head, and what follows that call; none where nothing is left.
-// Any file is cut call by call, and one that was written is cut into the calls that were written.
+/// The first call of what follows the head, and what follows that call; none where nothing is left.
+/// Any file is cut call by call, and one that was written is cut into the calls that were written.
 #[tactic(auto, using(crate::proofs::FileLaws::cut_by_cut, crate::proofs::FileLaws::files_read_back))]
 pub fn next_call(rest: &[u8]) -> Option<(&[u8], &[u8])>
     ensures first { MatchOption result (length rest.now ≡ 0) (λ p. (0 < length rest.now) × (p.0.now ≡ first_call rest.now) × (p.1.now ≡ after_call rest.now)) }
@@ -41,7 +41,7 @@ pub fn next_call(rest: &[u8]) -> Option<(&[u8], &[u8])>
     Some(body.split_at(length.min(body.len())))
 }
 
-// The calls of what follows the head, from the first on.
+/// The calls of what follows the head, from the first on.
 #[derive(Clone, Debug, Drop)]
 pub struct Calls<'a> {
     rest: &'a [u8],

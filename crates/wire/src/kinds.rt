@@ -1,12 +1,11 @@
-// The kinds of rules, and the numbers that stand for them.
+//! The kinds of rules, and the numbers that stand for them.
 ghost use Rattle.std.specs.Prelude.{◌≡◌, slice_index};
 ghost use Rattle.wire.specs.Meaning.{meant, kind_number, ReadsKind};
 ghost use Rattle.wire.specs.CallBytes.{rule_from};
 
 use crate::calls::Rule;
-use thiserror::Error;
 
-// In the order of their numbers, from 0 on.
+/// In the order of their numbers, from 0 on.
 #[derive(Clone, Copy, Debug, PartialEq, Eq)]
 pub enum RuleKind {
     Take,
@@ -16,9 +15,8 @@ pub enum RuleKind {
     Fade,
 }
 
-// A number that stands for no kind.
-#[derive(Clone, Copy, Debug, PartialEq, Eq, Error)]
-#[error("no kind of rule has the number {0}")]
+/// A number that stands for no kind.
+#[derive(Clone, Copy, Debug, PartialEq, Eq)]
 pub struct UnknownKind(pub u8);
 
 impl TryFrom<u8> for RuleKind {
@@ -39,7 +37,7 @@ impl TryFrom<u8> for RuleKind {
 }
 
 impl RuleKind {
-    // The rule of this kind, by its three numbers.
+    /// The rule of this kind, by its three numbers.
     pub fn rule(self, numbers: [u32; 3]) -> Rule
         ensures { meant result ≡ rule_from (kind_number self) (slice_index numbers 0) (slice_index numbers 1) (slice_index numbers 2) }
     {

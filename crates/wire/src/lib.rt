@@ -1,6 +1,6 @@
-// Calls and answers as bytes. This crate owns rules, calls, answers and refusals as values, their formats, and how a file is cut
-// into calls; specs/ says for every list of bytes what it is. Reading takes any bytes: what is no call is told by the place of its
-// first byte that doesn't fit.
+//! Calls and answers as bytes. This crate owns rules, calls, answers and refusals as values, their formats, and how a file is cut
+//! into calls; specs/ says for every list of bytes what it is. Reading takes any bytes: what is no call is told by the place of its
+//! first byte that doesn't fit.
 #![tactic(auto)]
 
 mod answers;

@@ -1,11 +1,11 @@
-// Calls, answers and files as bytes.
+//! Calls, answers and files as bytes.
 use std::process::Abort;
 use std::test::Fail;
 use wire::{
     Answer, Call, Calls, Garbled, Head, Refusal, Rule, lay_bytes, next_call, read_call, read_head,
 };
 
-// A lay of rule kind 2 with fields 1, 256 and 65536, and a byte too many.
+/// A lay of rule kind 2 with fields 1, 256 and 65536, and a byte too many.
 const LAY: [u8; 15] = [0, 2, 1, 0, 0, 0, 0, 1, 0, 0, 0, 0, 1, 0, 9];
 
 fn misfit_at(rt: &impl Abort, bytes: &[u8], place: u64) {
@@ -102,7 +102,7 @@ fn heads(rt: HostRuntime) {
     assert_eq!(rt; read_head(b"\x02\0\0\0\x05\0\0"), None);
 }
 
-// A call of one byte, an empty one, one of three, and a length that is cut short.
+/// A call of one byte, an empty one, one of three, and a length that is cut short.
 #[test]
 fn files(rt: HostRuntime) -> Result<(), Fail> {
     let mut rest: &[u8] = b"\x01\0\0\0\x09\0\0\0\0\x03\0\0\0\x07\x07\x01\0";
@@ -128,7 +128,7 @@ fn a_file_that_ends_inside_a_call(rt: HostRuntime) -> Result<(), Fail> {
     Ok(())
 }
 
-// The same calls, by the iterator.
+/// The same calls, by the iterator.
 #[test]
 fn calls_in_turn(rt: HostRuntime) {
     let mut calls = Calls::new(b"\x01\0\0\0\x09\0\0\0\0\x03\0\0\0\x07\x07\x01\0");

@@ -1,5 +1,4 @@
-// Kinds of rules and refusals by their numbers, and what errors say.
-use std::test::Fail;
+//! Kinds of rules and refusals by their numbers.
 use wire::{Garbled, Refusal, RuleKind, UnknownKind, UnknownRefusal, rule_of_kind};
 
 #[test]
@@ -38,45 +37,4 @@ fn refusals(rt: HostRuntime) {
         place: 1,
     };
     assert_eq!(rt; Refusal::try_from((4, 1)), Err(unknown));
-}
-
-#[test]
-fn errors(rt: HostRuntime) -> Result<(), Fail> {
-    let garbled = Garbled { place: 14 };
-    let text = garbled.to_string(rt.alloc())?;
-    assert_eq!(rt; text.as_str(), "the bytes are no call from byte 14 on");
-    let refusals = [
-        (
-            Refusal::from(garbled),
-            "the bytes are no call from byte 14 on",
-        ),
-        (
-            Refusal::OutOfRange,
-            "a rule out of range, or an earning above the bound",
-        ),
-        (Refusal::TooManyRules, "a limit of more than 64 rules"),
-        (Refusal::BoundTooHigh, "a bound above 1,000,000,000"),
-        (
-            Refusal::MemoryTooSmall,
-            "memory that is too small, or holds no opened book",
-        ),
-        (Refusal::NoSuchRule, "a rule that is not there"),
-        (Refusal::BookFull, "more rules than the limit"),
-    ];
-    for (refusal, said) in refusals {
-        let text = refusal.to_string(rt.alloc())?;
-        assert_eq!(rt; text.as_str(), said);
-    }
-    let text = UnknownKind(5).to_string(rt.alloc())?;
-    assert_eq!(rt; text.as_str(), "no kind of rule has the number 5");
-    let unknown = UnknownRefusal {
-        number: 4,
-        place: 1,
-    };
-    let text = unknown.to_string(rt.alloc())?;
-    assert_eq!(rt;
-        text.as_str(),
-        "no refusal has the number 4 and the place 1"
-    );
-    Ok(())
 }

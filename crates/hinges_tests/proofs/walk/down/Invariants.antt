@@ -1,6 +1,6 @@
 use Rattle.std.proofs.Common.{◌≤◌}
-use Rattle.hinges.specs.Left.{LeftAt}
+use Rattle.hinges.specs.Sweep.{SweepAt}
 use Rattle.hinges_tests.proofs.walk.down.Given as goal
 
 abbrev pub invariant-loop : goal.invariant-loop
-invariant-loop g l = (l.last ≤ l.book.bound) × LeftAt l.hinges l.last l.left
+invariant-loop g l = (l.last ≤ l.book.bound) × SweepAt l.hinges l.last l.sweep

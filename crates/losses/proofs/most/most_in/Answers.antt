@@ -12,7 +12,7 @@ loop-words-init c =
     let t = c.write_table-count.ensures in
     let us = c.write_table-count.new.words in
     let w = chunks_read read_entry 6 (table rs b) (length us / 6) us (search rules) t.stored in
-    begins rs b c.args.range _ (rw (t.count, c.as_chunks.ensures.front) w) t.sized
+    begins rs b c.args.row _ (rw (t.count, c.as_chunks.ensures.front) w) t.sized
 
 pub most_on-requires-clause-sized : goal.most_on-requires-clause-sized
 most_on-requires-clause-sized c = (read_sized c.loop-words.invariant _ (search rules) c.in-Some.entry (sym c.in-Some.is ∙ c.read_entry.ensures.entry)).0

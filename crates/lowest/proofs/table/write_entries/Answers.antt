@@ -36,7 +36,7 @@ hinges-init c =
     let v : to_z w64 (of_z w64 c.lowest.result) ≡ c.lowest.result = to_z-of_z w64 c.lowest.result (record { sfits = c.lowest.type_inv }) in
     let e : suc (s.result.from - 1) ≡ s.result.from = omega (arith, c.if-segment-eq0.false) in (
       rw e (goes_on i.0 s.result.from f s.result g c.put_entry.new.part c.put_entry.ensures _ c.if-segment-eq0.false (v ∙ c.lowest.ensures)),
-      c.back_to-left.ensures c.as_slice-hinges.result.now c.breakpoints.last (rw c.as_slice-hinges.ensures.value c.hinges_of-in_order.ensures.ordered) i.1 s.ensures.segment,
+      c.back_to-sweep.ensures c.as_slice-hinges.result.now c.breakpoints.last (rw c.as_slice-hinges.ensures.value c.hinges_of-in_order.ensures.ordered) i.1 s.ensures.segment,
       e,
       refl,
     )
@@ -76,11 +76,11 @@ returns-clause-fits c =
 pub without_last-requires-clause-ordered : goal.without_last-requires-clause-ordered
 without_last-requires-clause-ordered c = rw c.as_slice-hinges.ensures.value c.hinges_of-in_order.ensures.ordered
 
-pub one_below-left-requires-clause-ordered : goal.one_below-left-requires-clause-ordered
-one_below-left-requires-clause-ordered c = rw c.as_slice-hinges.ensures.value c.hinges_of-in_order.ensures.ordered
+pub one_below-sweep-requires-clause-ordered : goal.one_below-sweep-requires-clause-ordered
+one_below-sweep-requires-clause-ordered c = rw c.as_slice-hinges.ensures.value c.hinges_of-in_order.ensures.ordered
 
-pub one_below-left-requires-clause-low : goal.one_below-left-requires-clause-low
-one_below-left-requires-clause-low c =
+pub one_below-sweep-requires-clause-low : goal.one_below-sweep-requires-clause-low
+one_below-sweep-requires-clause-low c =
     let i = c.breakpoints.invariant in
     let rs = c.args.book.now.rules in
     let low : c.args.book.now.bound ≤ 1000000000 = rw (← c.bound-last.ensures.value) c.bound-last.ensures.low in

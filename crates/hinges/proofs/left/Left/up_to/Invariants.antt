@@ -1,5 +1,0 @@
-use Rattle.hinges.proofs.Down.{Passed}
-use Rattle.hinges.proofs.left.Left.up_to.Given as goal
-
-abbrev pub invariant-loop-hinge : goal.invariant-loop-hinge
-invariant-loop-hinge l = Passed l.hinges l.gross l.hinge-index l.left
