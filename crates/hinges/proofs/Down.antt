@@ -1,5 +1,5 @@
 -- The way down: the segment that ends where it stands, hinges undone at its beginning, and on below.
-use Rattle.std.proofs.Common.{◌≡◌, ℕ, zero, suc, ◌+◌, ◌-◌, ◌<◌, ◌≤◌, true, false, leb, List, [], ◌∷◌, ◌++◌, length, get_or, take, drop, ℤ, pos, ◌+ℤ◌, ◌*ℤ◌, None, sym, refl, ap, ◌∙◌, inl, inr, arith}
+use Rattle.std.proofs.Common.{◌≡◌, ℕ, zero, suc, ◌+◌, ◌-◌, ◌<◌, ◌≤◌, true, false, leb, List, [], ◌∷◌, ◌++◌, length, get_or, take, drop, ℤ, pos, ◌+ℤ◌, ◌*ℤ◌, Some, None, sym, refl, ap, ◌∙◌, inl, inr, arith}
 use lib.IntN.{one, *ℤ-one}
 use Rattle.std.specs.List.{AllByRecursion}
 use Rattle.std.proofs.lemmas.List.{get_or_default, take_more, take-append-drop, map-append}
@@ -11,7 +11,7 @@ use Rattle.hinges.specs.declared.hinge.Hinge.{Hinge}
 use Rattle.hinges.specs.declared.sweep.Sweep.{Sweep}
 use Rattle.hinges.specs.Below.{nearer_below, greatest_below}
 use Rattle.hinges.specs.Hinges.{bends, turns, ats, Sized, Ordered, sum_of, segment_by}
-use Rattle.hinges.specs.Sweep.{last_at, with_hinge, without_hinge, line_of, one_back, Reached, SweepAt, UndoneAt, Fewer, Room}
+use Rattle.hinges.specs.Sweep.{hinge_at, last_at, with_hinge, without_hinge, without_nth, line_of, one_back, Reached, SweepAt, UndoneAt, Fewer, Room}
 use Rattle.hinges.proofs.Adding.{bends_joined, turns_joined, below_joined, bends_more, turns_more, room}
 use Rattle.hinges.proofs.Shares.{times_more}
 
@@ -137,6 +137,14 @@ module _ {hs : List Hinge} (o : Ordered hs) {g : ℕ} {l : Sweep} (r : SweepAt h
       })
 
 -- ---- hinges undone
+
+-- the n-th goes, or none does
+module _ (hs : List Hinge) (g : ℕ) (l : Sweep) (n i : ℕ) (e : suc i ≡ n) where
+  pub nth_undone : g ≤ (hinge_at hs i).at → Some (without_hinge l (hinge_at hs i)) ≡ without_nth hs g l n
+  nth_undone le = let t : leb g (hinge_at hs i).at ≡ true = le-leb g (hinge_at hs i).at le in rw (← e) (rw t refl)
+
+  pub nth_stays : (hinge_at hs i).at < g → None ≡ without_nth hs g l n
+  nth_stays lt = let t : leb g (hinge_at hs i).at ≡ false = lt-leb g (hinge_at hs i).at lt in rw (← e) (rw t refl)
 
 module _ {hs : List Hinge} {g : ℕ} {l : Sweep} (r : UndoneAt hs g l) where
   pub fewer : (i : ℕ) (d : Hinge) → suc i ≡ l.many → (g ≤ (get_or hs i d).at) → UndoneAt hs g (without_hinge l (get_or hs i d)) × (i < l.many)

@@ -1,15 +1,20 @@
 -- The sweep down: the hinges that are not undone yet, and what they come to. Definitions only: nothing is assumed.
-use Rattle.std.specs.Prelude.{◌≡◌, ℕ, zero, suc, ◌+◌, ◌-◌, ◌<◌, ◌≤◌, List, length, take, pos, ◌+ℤ◌, ◌-ℤ◌, ◌*ℤ◌, Some, None, Option, slice_index_or, unsigned_abs}
+use Rattle.std.specs.Prelude.{◌≡◌, ℕ, zero, suc, ◌+◌, ◌-◌, ◌<◌, ◌≤◌, List, length, take, pos, ◌+ℤ◌, ◌-ℤ◌, ◌*ℤ◌, Some, None, Option, nat_le, slice_index_or, unsigned_abs}
+use Rattle.raise.specs.Rules.{pick}
 use Rattle.raise.specs.Net.{on_line}
 use Rattle.segments.specs.declared.lines.Segment.{Segment}
 use Rattle.hinges.specs.declared.hinge.Hinge.{Hinge}
 use Rattle.hinges.specs.declared.sweep.Sweep.{Sweep}
 use Rattle.hinges.specs.Hinges.{bends, turns, Ordered, sum_of, segment_by}
 
+-- the hinge at an index; past the last of them one that bends nothing
+abbrev pub hinge_at : List Hinge → ℕ → Hinge
+hinge_at hs i = slice_index_or hs i (record { at = 0; jump = pos 0; pace = pos 0 })
+
 -- where the n-th is, counted from 1; 0 for none
 abbrev pub last_at : List Hinge → ℕ → ℕ
 last_at hs zero = 0
-last_at hs (suc i) = (slice_index_or hs i (record { at = 0; jump = pos 0; pace = pos 0 })).at
+last_at hs (suc i) = (hinge_at hs i).at
 
 -- one hinge more
 abbrev pub with_hinge : Sweep → Hinge → ℕ → Sweep
@@ -19,9 +24,18 @@ with_hinge l h g = record { many = l.many + 1; net = l.net +ℤ on_line h.at h.j
 abbrev pub without_hinge : Sweep → Hinge → Sweep
 without_hinge l h = record { many = l.many - 1; net = l.net -ℤ h.jump; slope = l.slope -ℤ h.pace }
 
+-- without the n-th, counted from 1, if there is one and it is not below the gross
+abbrev pub without_nth : List Hinge → ℕ → Sweep → ℕ → Option Sweep
+without_nth hs g l zero = None
+without_nth hs g l (suc i) = pick (nat_le g (hinge_at hs i).at) (Some (without_hinge l (hinge_at hs i))) None
+
 -- the line that they come to, from one gross to another, at which its net is theirs
 abbrev pub line_of : Sweep → ℕ → ℕ → Segment
 line_of l from g = record { from = from; to = suc g; net = l.net -ℤ (l.slope *ℤ pos (g - from)); slope = l.slope }
+
+-- as many of them at the beginning of a segment
+abbrev pub begun : Sweep → Segment → Sweep
+begun l s = record { many = l.many; net = s.net; slope = l.slope }
 
 -- one unit before
 abbrev pub one_back : Sweep → Sweep

@@ -2,7 +2,7 @@
 ghost use Rattle.std.specs.Prelude.{◌≡◌, ℕ, ◌<◌, ◌≤◌, ◌-◌, length, None};
 ghost use Rattle.hinges.specs.Below.{BreakpointsBelow};
 ghost use Rattle.hinges.specs.Hinges.{SizedHinge, Sized, Ordered, segment_by, sum_of, SegmentsTell};
-ghost use Rattle.hinges.specs.Sweep.{last_at, with_hinge, without_hinge, line_of, one_back, SweepAt, UndoneAt, Fewer, BackTo, Room};
+ghost use Rattle.hinges.specs.Sweep.{last_at, with_hinge, without_hinge, without_nth, line_of, begun, one_back, SweepAt, UndoneAt, Fewer, BackTo, Room};
 
 use crate::hinge::Hinge;
 use segments::Segment;
@@ -121,7 +121,8 @@ impl Sweep {
 
     /// The same at the beginning of the segment that ends with a gross.
     pub fn back_to(self, segment: Segment) -> Sweep
-        ensures { BackTo self segment result }
+        ensures begun { result ≡ begun self segment }
+        ensures back { BackTo self segment result }
     {
         Sweep {
             many: self.many,
@@ -136,7 +137,8 @@ impl Sweep {
         requires ordered { Ordered hinges.now }
         requires low { gross ≤ 1000000000 }
         requires undone { UndoneAt hinges.now gross self }
-        ensures { Fewer hinges.now gross self result }
+        ensures undone { result ≡ without_nth hinges.now gross self self.many }
+        ensures fewer { Fewer hinges.now gross self result }
     {
         let i = self.many.checked_sub(1)?;
         let hinge = hinges[i];

@@ -10,5 +10,5 @@ mod words;
 
 pub use all_rows::write_rows;
 pub use most::most_lost;
-pub use one_row::{row_from, words_for};
+pub use one_row::row_from;
 pub use words::{ROW_WORDS, read_row};

@@ -1,16 +1,17 @@
 //! The row from a gross on.
-ghost use Rattle.std.specs.Prelude.{◌≡◌, ◌*◌, ◌≤◌, List, length, drop};
+ghost use Rattle.std.specs.Prelude.{◌≡◌, ◌*◌, ◌≤◌, List, length};
 ghost use Rattle.raise.specs.declared.LosingRow.{LosingRow};
 ghost use Rattle.raise.specs.Rules.{first_losing};
 ghost use Rattle.raise.specs.Calls.{Limits, row_from};
 ghost use Rattle.raise.specs.Told.{row_told};
-ghost use Rattle.raise.specs.Rows.{rest_from, first_row_from};
-ghost use Rattle.losses.specs.Words.{width, Stored, row_room};
+ghost use Rattle.raise.specs.Rows.{losing_rows, rest_from, first_row_from};
+ghost use Rattle.lowest.specs.Entries.{width as entry_width};
+ghost use Rattle.lowest.specs.Table.{table as table_of, most_entries, with_table};
+ghost use Rattle.losses.specs.Words.{width, with_rows, Stored};
 
 use crate::all_rows::write_rows;
 use crate::words::{ROW_WORDS, read_row};
 use book::Book;
-use lowest::most_entries;
 use raise::LosingRow;
 
 /// What of the row lies at the gross or above, if anything does.
@@ -38,23 +39,16 @@ fn first_from(words: &[u64], count: usize, gross: u32) -> Option<LosingRow>
     None
 }
 
-/// How many words `row_from` asks for.
-pub fn words_for(book: &Book) -> usize
-    ensures { result ≡ row_room book.now.rules }
-{
-    lowest::words_for(book) + ROW_WORDS * most_entries(book)
-}
-
-/// The first row of those who lose, from a gross on: from its first, or from the gross where that lies in it, to its last. The words
-/// that are asked for may hold anything, before and after; those beyond stay.
+/// The first row of those who lose, from a gross on: from its first, or from the gross where that lies in it, to its last. The table
+/// of the book is left in the first words of `table`, and all its rows in the first of `rows`; the words behind them stay.
 #[tactic(auto, using(crate::proofs::Firsts::row_is))]
-pub fn row_from(book: &Book, scratch: &mut [u64], gross: u32) -> Option<LosingRow>
-    requires { row_room book.now.rules ≤ length scratch.old }
+pub fn row_from(book: &Book, table: &mut [u64], rows: &mut [u64], gross: u32) -> Option<LosingRow>
+    requires table { entry_width * most_entries book.now.rules ≤ length table.old }
+    requires rows { width * most_entries book.now.rules ≤ length rows.old }
     ensures row { (l : Limits) → l.bound ≡ book.now.bound → row_told result ≡ row_from l book.now.rules (first_losing book.now.rules book.now.bound gross) }
-    ensures beyond { drop (row_room book.now.rules) scratch.new ≡ drop (row_room book.now.rules) scratch.old }
+    ensures table { table.new ≡ with_table table.old 0 (table_of book.now.rules book.now.bound) }
+    ensures rows { rows.new ≡ with_rows rows.old (losing_rows book.now.rules book.now.bound) }
 {
-    let room = &mut scratch[..words_for(book)];
-    let (table, rows) = room.split_at_mut(lowest::words_for(book));
     let count = write_rows(book, table, rows);
     first_from(rows, count, gross)
 }

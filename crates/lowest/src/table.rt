@@ -47,13 +47,12 @@ fn write_entries(part: &mut [u64], book: &Book) -> usize
         last = segment.from - 1;
         sweep = sweep.back_to(segment);
         // The hinges at the breakpoint are undone one by one; once all there are, the next segment ends before it.
-        'hinges: loop {
+        loop {
             let Some(fewer) = sweep.without_last(hinges, segment.from) else {
                 sweep = sweep.one_below(hinges, segment.from);
                 continue 'breakpoints;
             };
             sweep = fewer;
-            continue 'hinges;
         }
     }
     count

@@ -1,3 +1,4 @@
 pub mod Lays
 pub mod Files
 pub mod Told
+mod Whole

@@ -1,11 +1,14 @@
--- A file of rules as text: the book that its lines make, or the first line that doesn't fit. Definitions only: nothing is assumed.
-use Rattle.std.specs.Prelude.{ℕ, suc, Bool, true, false, ◌||◌, List, [], ◌∷◌, take, drop, Ok, Err, Result, ◌==◌, nat_le}
+-- A file of rules as text: the book that its lines make, or the first line that doesn't fit; and what is promised of a book that is
+-- written as its lines. Nothing is assumed.
+use Rattle.std.specs.Prelude.{◌≡◌, ℕ, suc, ◌≤◌, Bool, true, false, ◌||◌, List, [], ◌∷◌, ◌++◌, length, take, drop, codes, Ok, Err, Result, ◌==◌, nat_le}
+use Rattle.std.specs.List.{flat_map}
 use Rattle.std.specs.Str.{bytes_eq}
 use Rattle.std.specs.Str.Lines.{lines}
 use Rattle.raise.specs.Rules.{pick, Rule}
 use Rattle.raise.specs.Calls.{Call, Limits, turned, changed}
 use Rattle.raise.specs.Calls as calls
-use Rattle.text.specs.RuleLines.{Says, nothing, bounds, lays, unreadable, line_says}
+use Rattle.book.specs.Held.{all_fine}
+use Rattle.text.specs.RuleLines.{Says, nothing, bounds, lays, unreadable, line_says, line_text, rule_text}
 use Rattle.session.specs.Memory.{limited}
 
 -- what was read so far: is it still before the bound and the first rule; the bound; and the rules
@@ -72,3 +75,20 @@ without_mark file = pick (bytes_eq (take 3 file) mark) (drop 3 file) file
 -- of a whole file
 abbrev pub draft : List ℕ → Result Draft Misfit
 draft file = draft_from 1 blank (lines (without_mark file))
+
+-- ---- what is promised
+
+-- a line for each rule, in their order
+abbrev pub rule_lines : List Rule → List ℕ
+rule_lines rs = flat_map (λ r. rule_text r ++ codes "\n") rs
+
+-- the text of a book: the line of its bound, and those of its rules
+abbrev pub book_text : ℕ → List Rule → List ℕ
+book_text b rs = line_text (bounds b) ++ (codes "\n" ++ rule_lines rs)
+
+-- a book that is written as its lines, whole, reads as that book: its bound, and its rules in their order, none lost and none more;
+-- and rules alone read as these rules, with the bound of a file that names none
+pub record BooksReadBack : Type 0 where
+  pub whole : (b : ℕ) (rs : List Rule) → b ≤ 1000000000 → length rs ≤ 16 → all_fine rs ≡ true → draft (book_text b rs) ≡ Ok (with_rules (with_bound b) rs)
+  pub rules : (r : Rule) (rs : List Rule) → length (r ∷ rs) ≤ 16 → all_fine (r ∷ rs) ≡ true → draft (rule_lines (r ∷ rs)) ≡ Ok (with_rules blank (r ∷ rs))
+  pub none : draft [] ≡ Ok blank

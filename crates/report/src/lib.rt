@@ -10,6 +10,7 @@ mod rows;
 ghost use Rattle.std.specs.Prelude.{◌≡◌, ◌≤◌, map, length, string_bytes, IfOk};
 ghost use Rattle.losses.specs.Words.{row_room};
 ghost use Rattle.report.specs.Report.{report as report_of, told_by};
+ghost use Rattle.report.specs.Reading.{BooksReadBack};
 ghost use Rattle.report.specs.Drafts.{printed};
 
 use book::{Book, words_asked};
@@ -46,9 +47,11 @@ fn tell(
     Ok(Outcome::Told(out))
 }
 
-/// What is told of a file of rules and of earnings.
+/// What is told of a file of rules and of earnings. A book that was written as its lines, whole, is read as that book.
+#[tactic(auto, using(crate::proofs::Whole::books_read_back))]
 pub fn report(heap: Global, file: &str, earnings: &[String]) -> Result<Outcome, AllocError>
-    ensures { IfOk result (λ outcome. printed outcome ≡ report_of file.now (map string_bytes earnings.now)) }
+    ensures told { IfOk result (λ outcome. printed outcome ≡ report_of file.now (map string_bytes earnings.now)) }
+    ensures back { BooksReadBack }
 {
     let mut words = vec![in heap; 0u64; words_asked(RULES)]?;
     match read_file(&mut words, file) {

@@ -82,7 +82,8 @@ fn tell_row(book: &Book, scratch: &mut [u64], gross: u32) -> Result<Answer, Refu
     let Some(gross) = at_most(gross, book.bound()) else {
         return Err(Refusal::OutOfRange);
     };
-    Ok(row_answer(row_from(book, scratch, gross)))
+    let (table, rows) = scratch.split_at_mut(lowest::words_for(book));
+    Ok(row_answer(row_from(book, table, rows, gross)))
 }
 
 /// A safe gross as one more than it is, or 0, likewise.

@@ -2,3 +2,4 @@ pub mod Amounts
 pub mod Digits
 pub mod Pieces
 pub mod ReadBack
+pub mod Plain

@@ -130,7 +130,7 @@ read_words ws a = rw (no_comment ws a, words_spaced ws a) refl
 own : IsNumeralModel (λ ds. all_ascii_digits ds ≡ true) (digits_value 10)
 own = numerals_by_value _ (search rules)
 
-decimal_digits : (n : ℕ) → n < 4294967296 → all_ascii_digits (decimal n) ≡ true
+pub decimal_digits : (n : ℕ) → n < 4294967296 → all_ascii_digits (decimal n) ≡ true
 decimal_digits n h = digits_decimal own n (omega (arith, h))
 
 decimal_value : (n : ℕ) → n < 4294967296 → number_of (decimal n) ≡ Some n
@@ -299,7 +299,7 @@ fade_read a r n x y z =
 field_small : (n : ℕ) → field n ≡ true → n < 4294967296
 field_small n h = ltb-true _ _ h
 
-three_small : (a b c : ℕ) → (field a && (field b && field c)) ≡ true → (a < 4294967296) × (b < 4294967296) × (c < 4294967296)
+pub three_small : (a b c : ℕ) → (field a && (field b && field c)) ≡ true → (a < 4294967296) × (b < 4294967296) × (c < 4294967296)
 three_small a b c h =
     let p = and_parts (field a) (field b && field c) h in
     let q = and_parts (field b) (field c) p.1 in
@@ -342,7 +342,7 @@ bounds_back : (n : ℕ) → n < 4294967296 → line_says (line_text (bounds n)) 
 unfolding line_says spaced none
 bounds_back n h = rw (read_words (codes "bound" ∷ (decimal n ∷ [])) (keyword (codes "bound") (omega arith) refl refl, (decimal_word n h, tt))) (rw (number_read n h) refl)
 
-fine_readable : (r : Rule) → fine r ≡ true → readable_rule r ≡ true
+pub fine_readable : (r : Rule) → fine r ≡ true → readable_rule r ≡ true
 unfolding fine readable_rule
 fine_readable (takes a b r) h = grind (arith, h)
 fine_readable (gives a b r) h = grind (arith, h)

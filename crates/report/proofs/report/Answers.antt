@@ -3,5 +3,5 @@ use Rattle.report.specs.Reading.{draft}
 use Rattle.report.proofs.Told.{filed}
 use Rattle.report.proofs.report.Goals as goal
 
-pub returns-in-Ok : goal.returns-in-Ok
-returns-in-Ok c = filed (draft c.args.file.now) c.in-Ok.book (map (string_bytes {Z = Global}) c.args.earnings.now) c.tell.result c.in-Ok.ensures.file c.tell.ensures
+pub returns-in-Ok-clause-told : goal.returns-in-Ok-clause-told
+returns-in-Ok-clause-told c = filed (draft c.args.file.now) c.in-Ok.book (map (string_bytes {Z = Global}) c.args.earnings.now) c.tell.result c.in-Ok.ensures.file c.tell.ensures

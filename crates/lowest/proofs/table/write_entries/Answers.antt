@@ -24,8 +24,8 @@ lowest-requires-clause-sized c =
     let s = c.segment-segment in
     sized low (stands _ _ i.0) of s.ensures.segment c.hinges_of-in_order.ensures.within
 
-pub hinges-init : goal.hinges-init
-hinges-init c =
+pub loop-fewer-init : goal.loop-fewer-init
+loop-fewer-init c =
     let i = c.breakpoints.invariant in
     let rs = c.args.book.now.rules in
     let low : c.args.book.now.bound ≤ 1000000000 = rw (← c.bound-last.ensures.value) c.bound-last.ensures.low in
@@ -36,7 +36,7 @@ hinges-init c =
     let v : to_z w64 (of_z w64 c.lowest.result) ≡ c.lowest.result = to_z-of_z w64 c.lowest.result (record { sfits = c.lowest.type_inv }) in
     let e : suc (s.result.from - 1) ≡ s.result.from = omega (arith, c.if-segment-eq0.false) in (
       rw e (goes_on i.0 s.result.from f s.result g c.put_entry.new.part c.put_entry.ensures _ c.if-segment-eq0.false (v ∙ c.lowest.ensures)),
-      c.back_to-sweep.ensures c.as_slice-hinges.result.now c.breakpoints.last (rw c.as_slice-hinges.ensures.value c.hinges_of-in_order.ensures.ordered) i.1 s.ensures.segment,
+      c.back_to-sweep.ensures.back c.as_slice-hinges.result.now c.breakpoints.last (rw c.as_slice-hinges.ensures.value c.hinges_of-in_order.ensures.ordered) i.1 s.ensures.segment,
       e,
       refl,
     )
@@ -95,4 +95,4 @@ breakpoints-smaller c =
     let low : c.args.book.now.bound ≤ 1000000000 = rw (← c.bound-last.ensures.value) c.bound-last.ensures.low in
     let of : HingesOf rs c.as_slice-hinges.result.now = rw c.as_slice-hinges.ensures.value c.hinges_of-in_order.ensures.of in
     let s = c.segment-segment in
-    omega (arith, (below i.0 s.result.from (found low (stands _ _ i.0) of s.ensures.segment)).less, c.if-segment-eq0.false, c.hinges.invariant.3)
+    omega (arith, (below i.0 s.result.from (found low (stands _ _ i.0) of s.ensures.segment)).less, c.if-segment-eq0.false, c.loop-fewer.invariant.3)

@@ -9,9 +9,9 @@ invariant-breakpoints l = At l.book.rules l.book.bound l.fn.part (suc l.last) l.
 abbrev pub decreases-breakpoints : goal.decreases-breakpoints
 decreases-breakpoints l = l.last
 
-abbrev pub invariant-hinges : goal.invariant-hinges
-invariant-hinges l =
+abbrev pub invariant-loop-fewer : goal.invariant-loop-fewer
+invariant-loop-fewer l =
     At l.book.rules l.book.bound l.fn.part (suc l.last) l.count l.lowest_above l.part × UndoneAt l.hinges l.segment.from l.sweep × (suc l.last ≡ l.segment.from) × (l.last ≡ l.initial.last)
 
-abbrev pub decreases-hinges : goal.decreases-hinges
-decreases-hinges l = l.sweep.many
+abbrev pub decreases-loop-fewer : goal.decreases-loop-fewer
+decreases-loop-fewer l = l.sweep.many
