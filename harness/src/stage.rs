@@ -22,6 +22,7 @@ pub struct Stage {
     pub beside: Option<PathBuf>,
     /// A folder in which each run gets one with its files.
     pub scratch: PathBuf,
+    /// How long a run may take.
     pub limit: Duration,
 }
 
