@@ -1,5 +1,6 @@
 //! The script `cliffs`, in a clone whose path has a blank, with a kit that only writes down what is asked of it.
 
+use std::env;
 use std::fs::{self, File, Permissions};
 use std::os::unix::fs::{PermissionsExt, symlink};
 use std::path::{Path, PathBuf};
@@ -45,6 +46,10 @@ struct Told {
     stderr: Vec<String>,
 }
 
+fn path() -> String {
+    env::var("PATH").expect("a path")
+}
+
 fn write_program(path: &Path, text: &str) {
     fs::write(path, text).and_then(|()| fs::set_permissions(path, Permissions::from_mode(0o755))).expect("a program");
 }
@@ -62,7 +67,7 @@ impl Clone {
         fs::write(top.join("crates.txt"), CRATES).expect("a file");
         fs::copy(Path::new(env!("CARGO_MANIFEST_DIR")).join("../cliffs"), top.join("cliffs")).expect("the script");
         write_program(&kit.join("rt"), KIT);
-        let path = format!("{}:{}", kit.display(), env!("PATH"));
+        let path = format!("{}:{}", kit.display(), path());
         Self { top, path, _turn: turn }
     }
 
@@ -158,7 +163,8 @@ fn without_the_kit() {
     clone.path = clone.top.join("tools").display().to_string();
     fs::create_dir(&clone.path).expect("a folder");
     for tool in ["bash", "dirname", "readlink", "find", "grep", "sh", "cat"] {
-        let found = env!("PATH").split(':').map(|folder| Path::new(folder).join(tool)).find(|path| path.exists());
+        let path = path();
+        let found = path.split(':').map(|folder| Path::new(folder).join(tool)).find(|path| path.exists());
         symlink(found.expect("the tool"), Path::new(&clone.path).join(tool)).expect("a link");
     }
     clone.run(&["-", "1300"]).is(0, TOLD, &[]);
