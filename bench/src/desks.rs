@@ -1,7 +1,6 @@
 //! Who answers the calls that are measured, and whether all answer alike.
 
 use crate::books::{Book, Kind};
-use crate::plain::Plain;
 use harness::answers::{Answer, LENGTH};
 use harness::calls::Call;
 use harness::model::{LosingRange, Model};
@@ -16,12 +15,12 @@ fn words_asked(limit: usize) -> usize {
 }
 
 /// Words into which the first rules of a book are laid, with a limit of all its rules.
-pub fn words_with<D: Desk>(desk: &D, book: &Book, count: usize) -> Vec<u64> {
+pub fn words_with(book: &Book, count: usize) -> Vec<u64> {
     let mut words = vec![0; words_asked(book.rules.len())];
-    desk.open(&mut words, book.rules.len() as u32, book.bound);
+    Session.open(&mut words, book.rules.len() as u32, book.bound);
     let mut out = [0; LENGTH];
     for &rule in &book.rules[..count] {
-        desk.serve(&mut words, &Call::Lay(rule).to_bytes(), &mut out);
+        Session.serve(&mut words, &Call::Lay(rule).to_bytes(), &mut out);
     }
     words
 }
@@ -60,22 +59,16 @@ pub fn trying(rules: &mut Vec<Rule>, bound: u32, call: Call) -> Option<Answer> {
     }
 }
 
-/// Does everybody give the session's answers, and leave its words?
+/// Does the sorting model give the session's answers?
 pub fn agree(book: &Book) -> Result<(), String> {
     for kind in Kind::ALL {
         let count = book.rules.len() - usize::from(kind == Kind::Lay);
-        let mut words = words_with(&Session, book, count);
-        let mut plain = words_with(&Plain, book, count);
+        let mut words = words_with(book, count);
         let mut rules = book.rules[..count].to_vec();
         for call in book.questions(kind) {
-            let mut answers = [[0; LENGTH]; 2];
-            Session.serve(&mut words, &call.to_bytes(), &mut answers[0]);
-            Plain.serve(&mut plain, &call.to_bytes(), &mut answers[1]);
-            let sorted = sorting(&mut rules, book.bound, call).map(Answer::to_bytes);
-            if answers[0] != answers[1] || words != plain {
-                return Err(format!("plain Rust differs at: {call}"));
-            }
-            if Some(answers[0]) != sorted {
+            let mut answer = [0; LENGTH];
+            Session.serve(&mut words, &call.to_bytes(), &mut answer);
+            if Some(answer) != sorting(&mut rules, book.bound, call).map(Answer::to_bytes) {
                 return Err(format!("the sorting model differs at: {call}"));
             }
         }

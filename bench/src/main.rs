@@ -1,10 +1,9 @@
-//! Nanoseconds for each call of the session, beside three others on the same books: the model that tries all grosses, the model
-//! that sorts breakpoints, and the session's own algorithm in plain Rust. It prints a table, and the ratios.
+//! Nanoseconds for each call of the session, beside two models on the same books: one tries all grosses, the other sorts
+//! breakpoints. It prints a table, and the ratios.
 
 mod books;
 mod desks;
 mod measure;
-mod plain;
 mod report;
 
 use books::{Book, Kind};

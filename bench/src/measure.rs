@@ -2,7 +2,6 @@
 
 use crate::books::{Book, Kind};
 use crate::desks::{sorting, trying, words_with};
-use crate::plain::Plain;
 use harness::answers::{Answer, LENGTH};
 use harness::calls::Call;
 use harness::rules::Rule;
@@ -27,12 +26,10 @@ pub struct Line {
     pub session: f64,
     pub tried: Option<f64>,
     pub sorted: f64,
-    pub plain: f64,
 }
 
-/// Serves calls on words of its own; after each round the words are as they were.
-struct Served<D> {
-    desk: D,
+/// The session serves calls on words of its own; after each round the words are as they were.
+struct Served {
     words: Vec<Vec<u64>>,
     calls: Vec<Vec<u8>>,
 }
@@ -51,21 +48,21 @@ trait Runs {
 /// A lay is served on so many copies of a book, since it changes it.
 const COPIES: usize = 16;
 
-impl<D: Desk> Served<D> {
-    fn new(desk: D, book: &Book, kind: Kind) -> Self {
+impl Served {
+    fn new(book: &Book, kind: Kind) -> Self {
         let count = book.rules.len() - usize::from(kind == Kind::Lay);
         let copies = if kind == Kind::Lay { COPIES } else { 1 };
-        let words = vec![words_with(&desk, book, count); copies];
-        Self { desk, words, calls: book.questions(kind).into_iter().map(Call::to_bytes).collect() }
+        let words = vec![words_with(book, count); copies];
+        Self { words, calls: book.questions(kind).into_iter().map(Call::to_bytes).collect() }
     }
 }
 
-impl<D: Desk> Runs for Served<D> {
+impl Runs for Served {
     fn run(&mut self) {
         let mut out = [0; LENGTH];
         for words in &mut self.words {
             for call in &self.calls {
-                self.desk.serve(black_box(words), black_box(call), &mut out);
+                Session.serve(black_box(words), black_box(call), &mut out);
                 black_box(&out);
             }
         }
@@ -162,13 +159,9 @@ fn shortest(all: &mut [Box<dyn Runs>]) -> Vec<f64> {
     best
 }
 
-/// Who answers a kind of call on a book: the session, plain Rust, the sorting model, and the model that tries all where it ends.
+/// Who answers a kind of call on a book: the session, the sorting model, and the model that tries all where it ends.
 fn all_on(book: &Book, kind: Kind) -> Vec<Box<dyn Runs>> {
-    let mut all: Vec<Box<dyn Runs>> = vec![
-        Box::new(Served::new(Session, book, kind)),
-        Box::new(Served::new(Plain, book, kind)),
-        Box::new(Asked::new(sorting, book, kind)),
-    ];
+    let mut all: Vec<Box<dyn Runs>> = vec![Box::new(Served::new(book, kind)), Box::new(Asked::new(sorting, book, kind))];
     if book.bound <= MOST_TRIED && matches!(kind, Kind::Row | Kind::Safe) {
         all.push(Box::new(Asked::new(trying, book, kind)));
     }
@@ -192,9 +185,8 @@ pub fn measured(books: &[Book], kind: Kind) -> Vec<Line> {
             rules: book.rules.len(),
             bound: book.bound,
             session: of_book[0],
-            plain: of_book[1],
-            sorted: of_book[2],
-            tried: of_book.get(3).copied(),
+            sorted: of_book[1],
+            tried: of_book.get(2).copied(),
         }
     };
     books.iter().zip(counts).map(line).collect()

@@ -12,16 +12,14 @@ fn thousands(number: u32) -> String {
 fn row(line: &Line) {
     let tried = line.tried.map_or("-".to_string(), |tried| format!("{tried:.0}"));
     println!(
-        "| {} | {} | {} | {:.0} | {} | {:.0} | {:.0} | {:.2} | {:.2} |",
+        "| {} | {} | {} | {:.0} | {} | {:.0} | {:.2} |",
         line.kind.name(),
         line.rules,
         thousands(line.bound),
         line.session,
         tried,
         line.sorted,
-        line.plain,
         line.session / line.sorted,
-        line.session / line.plain,
     );
 }
 
@@ -38,17 +36,16 @@ fn most(table: &[Line], ratio: impl Fn(&Line) -> Option<f64>) -> f64 {
 }
 
 pub fn print(table: &[Line]) {
-    println!("| call | rules | bound | session | tries all | sorts | plain | to sorts | to plain |");
-    println!("|---|---|---|---|---|---|---|---|---|");
+    println!("| call | rules | bound | session | tries all | sorts | to sorts |");
+    println!("|---|---|---|---|---|---|---|");
     for kind in Kind::ALL {
         table.iter().filter(|line| line.kind == kind).for_each(row);
     }
     println!();
-    println!("| call | 10^9 to 10^3, at most | to plain, at most | to sorts at 16 rules, at most |");
-    println!("|---|---|---|---|");
+    println!("| call | 10^9 to 10^3, at most | to sorts at 16 rules, at most |");
+    println!("|---|---|---|");
     for kind in Kind::ALL {
-        let plain = most(table, |line| (line.kind == kind).then_some(line.session / line.plain));
         let sorts = most(table, |line| (line.kind == kind && line.rules == 16).then_some(line.session / line.sorted));
-        println!("| {} | {:.2} | {plain:.2} | {sorts:.2} |", kind.name(), by_bound(table, kind));
+        println!("| {} | {:.2} | {sorts:.2} |", kind.name(), by_bound(table, kind));
     }
 }
