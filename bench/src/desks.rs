@@ -3,7 +3,7 @@
 use crate::books::{Book, Kind};
 use harness::answers::{Answer, LENGTH};
 use harness::calls::Call;
-use harness::model::{LosingRange, Model};
+use harness::model::{LosingRow, Model};
 use harness::rules::Rule;
 use harness::session::{Desk, Session};
 use harness::sorts::{Sorted, flows};
@@ -25,7 +25,7 @@ pub fn words_with(book: &Book, count: usize) -> Vec<u64> {
     words
 }
 
-fn told(row: Option<LosingRange>) -> Answer {
+fn told(row: Option<LosingRow>) -> Answer {
     row.map_or(Answer::Two(0, 0), |row| Answer::Two(u64::from(row.first) + 1, u64::from(row.last) + 1))
 }
 

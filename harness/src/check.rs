@@ -5,7 +5,7 @@ use crate::books::{Book, asked};
 use crate::calls::{Call, hex};
 use crate::cases::{Asked, Case, Step};
 use crate::memory::{Changed, Memory, Side};
-use crate::model::{LosingRange, Model};
+use crate::model::{LosingRow, Model};
 use crate::session::{Desk, Opened};
 use crate::written::{Written, opening, without_book};
 use std::fmt;
@@ -34,8 +34,8 @@ pub enum Difference {
         fresh: u64,
     },
     Rows {
-        told: Vec<LosingRange>,
-        must: Vec<LosingRange>,
+        told: Vec<LosingRow>,
+        must: Vec<LosingRow>,
     },
 }
 
@@ -177,7 +177,7 @@ impl<'a, D: Desk, M: Model> Check<'a, D, M> {
             let Answer::Two(first @ 1.., last) = self.one(Call::Row(from))? else {
                 break;
             };
-            let row = LosingRange { first: first as u32 - 1, last: last as u32 - 1 };
+            let row = LosingRow { first: first as u32 - 1, last: last as u32 - 1 };
             self.around(row, bound)?;
             told.push(row);
             from = last as u32;
@@ -186,7 +186,7 @@ impl<'a, D: Desk, M: Model> Check<'a, D, M> {
         if told == must { Ok(()) } else { Err((None, Difference::Rows { told, must })) }
     }
 
-    fn around(&mut self, LosingRange { first, last }: LosingRange, bound: u32) -> Stepped {
+    fn around(&mut self, LosingRow { first, last }: LosingRow, bound: u32) -> Stepped {
         for gross in [first.saturating_sub(1), first, last, last + 1] {
             self.one(Call::Left(gross.min(bound)))?;
             self.one(Call::Safe(gross.min(bound)))?;
@@ -233,7 +233,7 @@ fn opened(opened: &Opened) -> String {
     if opened.number == 0 { "accepted".into() } else { format!("refused {} at {}", opened.number, opened.place) }
 }
 
-fn ranges(rows: &[LosingRange]) -> String {
+fn ranges(rows: &[LosingRow]) -> String {
     let shown: Vec<_> = rows.iter().map(|row| format!("{} to {}", row.first, row.last)).collect();
     if shown.is_empty() { "none".into() } else { shown.join(", ") }
 }

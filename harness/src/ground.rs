@@ -1,7 +1,7 @@
 //! Random bounds, limits, rules and grosses: breakpoints that coincide, touch, or lie at the bound or beyond it.
 
 use crate::books::{Book, MOST_RULES};
-use crate::model::LosingRange;
+use crate::model::LosingRow;
 use crate::random::Random;
 use crate::rules::{MOST_GROSS, MOST_RATE, MOST_SUM, Rule};
 use crate::sorts::Sorted;
@@ -184,11 +184,11 @@ fn point_of(random: &mut Random, rule: Rule) -> u32 {
     }
 }
 
-/// The first or the last gross of a losing range, one in it, or where its first is safe; 0 where nobody loses.
+/// The first or the last gross of a losing row, one in it, or where its first is safe; 0 where nobody loses.
 fn point_of_loss(random: &mut Random, book: &Book) -> u32 {
     let sorted = Sorted::new(&book.rules, book.bound);
     let row = sorted.row(random.within(0..=book.bound)).or_else(|| sorted.row(0));
-    row.map_or(0, |LosingRange { first, last }| match random.below(4) {
+    row.map_or(0, |LosingRow { first, last }| match random.below(4) {
         0 => first,
         1 => last,
         2 => random.within(first..=last),
@@ -196,7 +196,7 @@ fn point_of_loss(random: &mut Random, book: &Book) -> u32 {
     })
 }
 
-/// A gross at a breakpoint of the rules, at the end of a losing range, near one of these, at an end, or anywhere.
+/// A gross at a breakpoint of the rules, at the end of a losing row, near one of these, at an end, or anywhere.
 pub fn gross(random: &mut Random, book: &Book) -> u32 {
     let point = match (random.below(12), book.rules.len()) {
         (0, _) => 0,

@@ -1,7 +1,7 @@
 //! The second model: all breakpoints sorted, a sweep up for the segments, and one down for the lowest net from each on. Its time
 //! goes by the rules and not by the bound.
 
-use crate::model::{LosingRange, Model};
+use crate::model::{LosingRow, Model};
 use crate::rules::Rule;
 
 /// Ten-thousandths in a unit.
@@ -99,13 +99,13 @@ impl Segment {
     }
 
     /// Its grosses that lose, where `beyond` is the least net beyond it: a run that ends with it, or one before its last.
-    fn losing(&self, beyond: i64) -> Option<LosingRange> {
+    fn losing(&self, beyond: i64) -> Option<LosingRow> {
         let Self { first, last, .. } = *self;
         if self.net_at(last) > beyond {
             let enough = if self.slope > 0 && self.net <= beyond { (beyond - self.net) / self.slope + 1 } else { 0 };
-            return Some(LosingRange { first: first + enough as u32, last });
+            return Some(LosingRow { first: first + enough as u32, last });
         }
-        (self.slope < 0 && first < last).then(|| LosingRange { first, last: last - 1 })
+        (self.slope < 0 && first < last).then(|| LosingRow { first, last: last - 1 })
     }
 
     /// The last of its grosses of which less than `net` is left.
@@ -178,19 +178,19 @@ impl Sorted {
     }
 
     /// The losing parts of the segments from a place on.
-    fn parts(&self, place: usize) -> impl Iterator<Item = LosingRange> {
+    fn parts(&self, place: usize) -> impl Iterator<Item = LosingRow> {
         let from = self.segments.get(place..).unwrap_or_default();
         let beyond = from.iter().skip(1).map(|next| next.lowest).chain([i64::MAX]);
         from.iter().zip(beyond).filter_map(|(segment, beyond)| segment.losing(beyond))
     }
 
-    /// The first losing range from a gross on, cut there. Neighbouring parts are one range.
-    pub fn row(&self, from: u32) -> Option<LosingRange> {
+    /// The first losing row from a gross on, cut there. Neighbouring parts are one row.
+    pub fn row(&self, from: u32) -> Option<LosingRow> {
         let mut parts = self.parts(self.place_of(from)).skip_while(|part| part.last < from);
         let part = parts.next()?;
         let first = part.first.max(from);
         let last = parts.try_fold(part.last, |last, next| if next.first == last + 1 { Ok(next.last) } else { Err(last) });
-        Some(LosingRange { first, last: last.unwrap_or_else(|last| last) })
+        Some(LosingRow { first, last: last.unwrap_or_else(|last| last) })
     }
 
     /// The smallest larger gross from which on, up to the bound, at least as much is left.
@@ -219,7 +219,7 @@ impl Model for SortedBook {
         flows(&self.rules, gross)
     }
 
-    fn row(&self, from: u32) -> Option<LosingRange> {
+    fn row(&self, from: u32) -> Option<LosingRow> {
         self.sorted.row(from)
     }
 
@@ -227,8 +227,8 @@ impl Model for SortedBook {
         self.sorted.safe(gross)
     }
 
-    fn rows(&self) -> Vec<LosingRange> {
-        let mut rows: Vec<LosingRange> = Vec::new();
+    fn rows(&self) -> Vec<LosingRow> {
+        let mut rows: Vec<LosingRow> = Vec::new();
         for part in self.sorted.parts(0) {
             match rows.last_mut() {
                 Some(row) if row.last + 1 == part.first => row.last = part.last,
@@ -252,7 +252,7 @@ mod tests {
         let sorted = Sorted::new(&rules, 1_000_000_000);
         let firsts: Vec<u32> = sorted.segments().iter().map(|segment| segment.first).collect();
         assert_eq!(firsts, [0, 999_999_000, 1_000_000_000]);
-        assert_eq!(sorted.row(0), Some(LosingRange { first: 0, last: 999_999_999 }));
+        assert_eq!(sorted.row(0), Some(LosingRow { first: 0, last: 999_999_999 }));
         assert_eq!(sorted.safe(999_999_999), None);
         assert_eq!(net(&rules, 1_000_000_000), -1_000_000_000);
     }

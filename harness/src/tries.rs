@@ -1,6 +1,6 @@
 //! The first model: every gross with every larger one, by the definition of the rules. For small bounds.
 
-use crate::model::{LosingRange, Model};
+use crate::model::{LosingRow, Model};
 use crate::rules::Rule;
 
 /// What a rule gives to who earns so much.
@@ -67,22 +67,22 @@ impl Model for Tries {
         self.flows[gross as usize]
     }
 
-    fn row(&self, from: u32) -> Option<LosingRange> {
+    fn row(&self, from: u32) -> Option<LosingRow> {
         let first = (from..=self.bound).find(|&gross| self.loses(gross))?;
         let last = (first..=self.bound).take_while(|&gross| self.loses(gross)).last()?;
-        Some(LosingRange { first, last })
+        Some(LosingRow { first, last })
     }
 
     fn safe(&self, gross: u32) -> Option<u32> {
         (gross + 1..=self.bound).find(|&more| self.is_enough(more, self.net(gross)))
     }
 
-    fn rows(&self) -> Vec<LosingRange> {
-        let mut rows: Vec<LosingRange> = Vec::new();
+    fn rows(&self) -> Vec<LosingRow> {
+        let mut rows: Vec<LosingRow> = Vec::new();
         for gross in (0..=self.bound).filter(|&gross| self.loses(gross)) {
             match rows.last_mut() {
                 Some(row) if row.last + 1 == gross => row.last = gross,
-                _ => rows.push(LosingRange { first: gross, last: gross }),
+                _ => rows.push(LosingRow { first: gross, last: gross }),
             }
         }
         rows

@@ -3,7 +3,7 @@
 use crate::answers::Answer;
 use crate::books::{Book, MOST_RULES, asked};
 use crate::calls::Call;
-use crate::model::{LosingRange, Model};
+use crate::model::{LosingRow, Model};
 use crate::rules::{MOST_GROSS, Rule};
 use crate::session::Opened;
 
@@ -88,6 +88,6 @@ impl<M: Model> Written<M> {
     }
 }
 
-fn row_answer(row: Option<LosingRange>) -> Answer {
+fn row_answer(row: Option<LosingRow>) -> Answer {
     row.map_or(Answer::Two(0, 0), |row| Answer::Two(u64::from(row.first) + 1, u64::from(row.last) + 1))
 }

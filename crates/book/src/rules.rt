@@ -16,7 +16,9 @@ const MOST_SUM: u32 = 100_000_000;
 /// What comes in and what goes out, in ten-thousandths of a unit.
 #[derive(Clone, Copy, Debug, PartialEq, Eq)]
 pub struct Flows {
+    /// what comes in: what is earned, or what is given
     pub inflow: u64,
+    /// what goes out: what is taken
     pub outflow: u64,
 }
 

@@ -6,8 +6,11 @@ ghost use Rattle.hinges.specs.Hinges.{SizedHinge};
 /// From this gross on net is higher by the jump, and by the pace for each unit beyond.
 #[derive(Clone, Copy, Debug, Default, PartialEq, Eq)]
 pub struct Hinge {
+    /// the gross from which on it counts
     pub at: u32,
+    /// ten-thousandths that are added at once, below 0 what is taken away
     pub jump: i64,
+    /// ten-thousandths that are added for each unit beyond
     pub pace: i64,
 }
 

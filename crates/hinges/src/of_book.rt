@@ -15,6 +15,7 @@ use wire::Rule;
 /// At most three of each of 64 rules, and that of the unit itself.
 pub const MOST_HINGES: usize = 193;
 
+/// The hinges of a book, in the value itself.
 pub type Hinges = ArrayVec<Hinge, MOST_HINGES>;
 
 /// What begins at a hinge, and ends at `to`.

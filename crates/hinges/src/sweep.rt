@@ -10,8 +10,11 @@ use segments::Segment;
 /// The first so many hinges, and what they come to at a gross: net, and the slope.
 #[derive(Clone, Copy, Debug, PartialEq, Eq)]
 pub struct Sweep {
+    /// how many hinges are not undone: these are the first of them
     pub many: usize,
+    /// what they come to, in ten-thousandths
     pub net: i64,
+    /// by how much that rises for each unit more, in ten-thousandths
     pub slope: i64,
 }
 
@@ -32,7 +35,7 @@ impl Sweep {
         }
     }
 
-    /// From one gross to another, which they come to.
+    /// The line that they come to, from one gross to another.
     fn line(self, from: u32, gross: u32) -> Segment
         requires room { Room self }
         requires order { from ≤ gross }
@@ -74,7 +77,7 @@ impl Sweep {
         }
     }
 
-    /// Those up to a gross.
+    /// The sweep at a gross: all hinges up to it, and what they come to there.
     pub fn up_to(hinges: &[Hinge], gross: u32) -> Sweep
         requires sized { Sized hinges.now }
         requires ordered { Ordered hinges.now }
@@ -119,7 +122,7 @@ impl Sweep {
         self.line(self.last_at(hinges), gross)
     }
 
-    /// The same at the beginning of the segment that ends with a gross.
+    /// The sweep at the beginning of the segment that ends where it stands: as many hinges, and the net of that beginning.
     pub fn back_to(self, segment: Segment) -> Sweep
         ensures begun { result ≡ begun self segment }
         ensures back { BackTo self segment result }
@@ -131,7 +134,7 @@ impl Sweep {
         }
     }
 
-    /// Without the last of them, if that is at the gross.
+    /// Without the last of them, if there is one and it is not below the gross; else none.
     pub fn without_last(self, hinges: &[Hinge], gross: u32) -> Option<Sweep>
         requires sized { Sized hinges.now }
         requires ordered { Ordered hinges.now }
@@ -148,7 +151,7 @@ impl Sweep {
         Some(self.without(hinge))
     }
 
-    /// The same one below a gross at which none of them is any more.
+    /// The sweep one below a gross at which none of them is any more.
     pub fn one_below(self, hinges: &[Hinge], gross: u32) -> Sweep
         requires sized { Sized hinges.now }
         requires ordered { Ordered hinges.now }
@@ -161,7 +164,7 @@ impl Sweep {
         self.one_back()
     }
 
-    /// The sweep below a segment that doesn't begin at 0.
+    /// The sweep one below a segment that doesn't begin at 0: all hinges where it begins are undone.
     pub fn past(self, hinges: &[Hinge], segment: Segment) -> Sweep
         requires sized { Sized hinges.now }
         requires ordered { Ordered hinges.now }

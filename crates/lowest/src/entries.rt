@@ -13,6 +13,7 @@ pub const ENTRY_WORDS: usize = 6;
 #[derive(Clone, Copy, Debug, PartialEq, Eq)]
 pub struct Entry {
     pub segment: Segment,
+    /// in ten-thousandths
     pub lowest_above: Option<i64>,
 }
 

@@ -3,6 +3,8 @@
 -- What is earned (gross) is a whole number of units, from 0 to a bound. Every amount is in ten-thousandths of a unit.
 -- What comes in is the gross itself and all that rules give; what goes out is all that rules take; what is left (net) is
 -- the first less the second, and may be below nothing. So that natural numbers suffice, the two are kept apart here.
+-- As the field calls it: a fade is a taper; what goes of one unit more, 10,000 less the slope (Net.antt), is the effective marginal
+-- rate; the smallest larger earning that is safe is the break-even; and a row ends at a cliff.
 use Rattle.std.specs.Prelude.{ℕ, zero, suc, ◌+◌, ◌-◌, ◌*◌, Bool, true, false, not, ◌&&◌, ◌||◌, List, [], ◌∷◌, nat_le, nat_lt}
 
 abbrev pub pick : {A : Type 0} → Bool → A → A → A

@@ -11,7 +11,9 @@ ghost use Rattle.std.specs.Prelude.{◌≡◌, ◌*◌};
 /// Earnings that all lose by earning more, from the first to the last.
 #[derive(Clone, Copy, Debug, PartialEq, Eq)]
 pub struct LosingRow {
+    /// in whole units, as every earning
     pub first: u32,
+    /// itself one of them, so not below the first
     pub last: u32,
 }
 

@@ -23,7 +23,9 @@ use std::alloc::{AllocError, Global};
 /// What is printed: the text, or why there is none.
 #[derive(Drop)]
 pub enum Outcome {
+    /// the rows, and a line for each earning, for standard output
     Told(String),
+    /// the message on the first line, or else earning, that doesn't fit, for standard error
     Refused(String),
 }
 

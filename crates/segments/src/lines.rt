@@ -10,9 +10,13 @@ use book::Book;
 /// The grosses from `from` on, before `to`; what is left of `from`, and by how much net rises for each unit more.
 #[derive(Clone, Copy, Debug, PartialEq, Eq)]
 pub struct Segment {
+    /// the first gross on it, in units
     pub from: u32,
+    /// one past the last
     pub to: u32,
+    /// what is left of the first, in ten-thousandths
     pub net: i64,
+    /// by how much net rises for each unit more, in ten-thousandths: 10,000 less the effective marginal rate
     pub slope: i64,
 }
 

@@ -10,7 +10,9 @@ use wire::Rule;
 /// From a rule's first breakpoint on, up to before its second, or for good where it has no second.
 #[derive(Clone, Copy, Debug, PartialEq, Eq)]
 pub struct Span {
+    /// the first gross at which the rule holds
     pub from: u32,
+    /// the first at which it no longer does
     pub to: Option<u64>,
 }
 

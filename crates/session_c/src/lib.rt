@@ -10,7 +10,9 @@ ghost use Rattle.session_c.specs.Opened.{said};
 /// The number and the place of the refusal of an opening; 0 and 0 where it was accepted.
 #[repr(C)]
 pub struct Opened {
+    /// 3, or 0 for an accepted opening
     pub number: u64,
+    /// 0 too many rules, 1 a bound too high, 2 memory too small; 0 for an accepted opening
     pub place: u64,
 }
 

@@ -12,7 +12,9 @@ use wire::{Answer, Call, Garbled};
 /// once more: only the crate of a type can say how it is shown, and `book` says nothing of text.
 #[derive(Clone, Copy, Debug, PartialEq, Eq)]
 pub struct Amount {
+    /// what comes in
     pub inflow: u64,
+    /// what goes out
     pub outflow: u64,
 }
 
@@ -38,7 +40,9 @@ struct OrNone<T>(Option<T>);
 /// What was asked and what was answered.
 #[derive(Clone, Copy, Debug, PartialEq, Eq)]
 pub struct Line {
+    /// the call, or where its bytes cease to be one
     pub asked: Result<Call, Garbled>,
+    /// the answer to it
     pub answer: Answer,
 }
 

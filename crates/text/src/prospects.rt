@@ -8,23 +8,31 @@ use std::fmt;
 /// A row of those who lose by earning more, and the most that is lost in it, in ten-thousandths.
 #[derive(Clone, Copy, Debug, PartialEq, Eq)]
 pub struct RowLine {
+    /// the first earning, in units
     pub first: u32,
+    /// the last
     pub last: u32,
+    /// in ten-thousandths
     pub most: u64,
 }
 
 /// Whether somebody loses by earning more; and if so, from where on it is safe to, if from anywhere.
 #[derive(Clone, Copy, Debug, PartialEq, Eq)]
 pub enum Outlook {
+    /// of no larger earning, up to the bound, less is left
     NeverLoses,
+    /// of some larger earning less is left; from `safe_from` on of none, up to the bound
     Loses { safe_from: Option<u32> },
 }
 
 /// An earning, what is left of it, and what more would do.
 #[derive(Clone, Copy, Debug, PartialEq, Eq)]
 pub struct Prospect {
+    /// what is earned, in units
     pub gross: u32,
+    /// what is left of it
     pub left: Amount,
+    /// what more would do
     pub outlook: Outlook,
 }
 

@@ -16,7 +16,9 @@ const ON: u32 = 1_000_000_000;
 pub enum RuleLine {
     /// nothing, or a comment alone
     Empty,
+    /// the highest earning that is looked at
     Bound(u32),
+    /// any rule, also one out of range
     Rule(Rule),
 }
 

@@ -12,16 +12,17 @@ use crate::calls::Garbled;
 pub enum Refusal {
     /// 1: the bytes are no call, from this place on
     Unreadable { place: u64 },
-    /// 2
+    /// 2: a rule out of range, or an earning above the bound
     OutOfRange,
-    /// 3 at 0 and 1, at an opening
+    /// 3 at 0, at an opening: a limit of more than 64 rules
     TooManyRules,
+    /// 3 at 1, at an opening: a bound above 1,000,000,000
     BoundTooHigh,
     /// 3 at 2: memory smaller than is asked for, or that holds no opened book
     MemoryTooSmall,
-    /// 4
+    /// 4: a rule that is not there
     NoSuchRule,
-    /// 5
+    /// 5: more rules than the limit
     BookFull,
 }
 
@@ -29,12 +30,14 @@ pub enum Refusal {
 #[derive(Clone, Copy, Debug, PartialEq, Eq)]
 pub enum Answer {
     Refused(Refusal),
+    /// the number of a rule; or one more than a safe earning, and 0 where there is none
     Number(u64),
+    /// what comes in and what goes out; or one more than the first and the last of a row, and 0 and 0 where there is none
     Two(u64, u64),
 }
 
 impl Refusal {
-    /// The number and the place by which bytes and lines tell a refusal: methods, since a `From` would give both at once.
+    /// The number by which bytes and lines tell a refusal. A method, as `place`, since a `From` would give both at once.
     pub fn number(self) -> u64
         ensures { result ≡ refusal_number self }
     {
@@ -47,6 +50,7 @@ impl Refusal {
         }
     }
 
+    /// The place that goes with it: the first byte that doesn't fit, which of the limits of an opening, and else 0.
     pub fn place(self) -> u64
         ensures { result ≡ refusal_place self }
     {

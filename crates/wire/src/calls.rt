@@ -9,13 +9,19 @@ ghost use Rattle.wire.specs.CallBytes.{numbers, rule_fields, call_bytes, rule_fr
 
 use crate::kinds::RuleKind;
 
-/// A rule; rates are in ten-thousandths of a unit, sums in units.
+/// A rule. Rates are in ten-thousandths of each unit, sums and borders in units. Any numbers may stand in it: which are in range is
+/// `book`'s to say.
 #[derive(Clone, Copy, Debug, PartialEq, Eq)]
 pub enum Rule {
+    /// a rate is taken of what is earned above `from`, up to `to`
     Take { from: u32, to: u32, rate: u32 },
+    /// likewise, given
     Give { from: u32, to: u32, rate: u32 },
+    /// a sum is taken where what is earned is `from` or more and below `to`
     TakeSum { from: u32, to: u32, sum: u32 },
+    /// likewise, given
     GiveSum { from: u32, to: u32, sum: u32 },
+    /// a sum is given, less a rate for each unit above `from`, and nothing where that would be below nothing: a benefit that tapers
     Fade { from: u32, rate: u32, sum: u32 },
 }
 
@@ -35,10 +41,15 @@ impl Default for Rule {
 /// What is asked: a rule laid or lifted, or a question about an earning.
 #[derive(Clone, Copy, Debug, PartialEq, Eq)]
 pub enum Call {
+    /// a rule comes into the book, as its last
     Lay(Rule),
+    /// the rule of this number goes, and those after it have each one number less
     Lift(u32),
+    /// what comes in and what goes out, at an earning
     Left(u32),
+    /// the first row of those who lose, from an earning on
     Row(u32),
+    /// from where on an earning is safe
     Safe(u32),
 }
 
@@ -49,6 +60,7 @@ pub struct Garbled {
 }
 
 impl Rule {
+    /// Which of the five kinds it is.
     #[tactic(auto, unfolding(raise::specs::Calls::rule_number))]
     pub fn kind(self) -> RuleKind
         ensures { kind_number result ≡ rule_number (meant self) }

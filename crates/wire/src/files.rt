@@ -9,7 +9,9 @@ use crate::calls::field;
 /// The limit of rules and the bound that a file begins with.
 #[derive(Clone, Copy, Debug, PartialEq, Eq)]
 pub struct Head {
+    /// how many rules there may be
     pub rules: u32,
+    /// up to which earning it is asked, in units
     pub bound: u32,
 }
 
@@ -48,6 +50,7 @@ pub struct Calls<'a> {
 }
 
 impl<'a> Calls<'a> {
+    /// Those of what follows the head of a file.
     pub fn new(rest: &'a [u8]) -> Calls<'a>
         ensures { calls_left result ≡ calls_in rest.now }
     {

@@ -5,7 +5,7 @@ ghost use Rattle.wire.specs.CallBytes.{rule_from};
 
 use crate::calls::Rule;
 
-/// In the order of their numbers, from 0 on.
+/// The five kinds, in the order of their numbers, from 0 on.
 #[derive(Clone, Copy, Debug, PartialEq, Eq)]
 pub enum RuleKind {
     Take,
