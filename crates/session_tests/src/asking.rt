@@ -2,7 +2,7 @@
 use session::{call, open};
 use std::process::Abort;
 use std::test::Fail;
-use wire::Answer;
+use wire::{Answer, lay_bytes, rule_of_kind};
 
 /// The greatest bound that a book may have.
 pub(crate) const MOST: u32 = 1_000_000_000;
@@ -10,7 +10,7 @@ pub(crate) const MOST: u32 = 1_000_000_000;
 /// Words for four rules, and four more.
 pub(crate) const WORDS: usize = 196;
 
-/// Kinds as the bytes of a call have them, which is what is tested here.
+/// Kinds of rules and of calls, as their bytes have them.
 pub(crate) const TAKE: u8 = 0;
 
 pub(crate) const GIVE: u8 = 1;
@@ -36,10 +36,7 @@ pub(crate) fn opened(rules: u32, bound: u32) -> Result<[u64; WORDS], Fail> {
 }
 
 pub(crate) fn lay(kind: u8, from: u32, second: u32, last: u32) -> [u8; 14] {
-    let mut bytes = [0; 14];
-    bytes[1] = kind;
-    bytes[2..].copy_from_slice([from, second, last].map(u32::to_le_bytes).as_flattened());
-    bytes
+    lay_bytes(rule_of_kind(kind, from, second, last))
 }
 
 pub(crate) fn ask(kind: u8, value: u32) -> [u8; 5] {

@@ -49,13 +49,13 @@ fn no_calls(rt: HostRuntime) {
 #[test]
 fn kinds(rt: HostRuntime) {
     let kinds = [
-        RuleKind::Take,
-        RuleKind::Give,
-        RuleKind::TakeSum,
-        RuleKind::GiveSum,
-        RuleKind::Fade,
+        (0, RuleKind::Take),
+        (1, RuleKind::Give),
+        (2, RuleKind::TakeSum),
+        (3, RuleKind::GiveSum),
+        (4, RuleKind::Fade),
     ];
-    for (kind, number) in kinds.into_iter().zip(0..) {
+    for (number, kind) in kinds {
         assert_eq!(rt; RuleKind::try_from(number), Ok(kind));
         assert_eq!(rt; kind as u8, number);
         let rule = kind.rule([10, 20, 30]);
@@ -66,20 +66,21 @@ fn kinds(rt: HostRuntime) {
     assert_eq!(rt; RuleKind::try_from(5), Err(UnknownKind(5)));
 }
 
-/// Three numbers of eight bytes each.
-fn reads_back(rt: &impl Abort, answer: Answer, numbers: [u64; 3]) {
+/// Three numbers of eight bytes each, of which these are the lowest.
+fn reads_back(rt: &impl Abort, answer: Answer, lowest: [u8; 3]) {
     let bytes = answer.to_bytes();
-    assert_eq!(rt;
-        bytes.as_slice(),
-        numbers.map(u64::to_le_bytes).as_flattened()
-    );
+    assert_eq!(rt; [bytes[0], bytes[8], bytes[16]], lowest);
     assert_eq!(rt; Answer::from_bytes(&bytes), Some(answer));
 }
 
 #[test]
 fn answers(rt: HostRuntime) {
-    reads_back(&rt, Answer::Number(258), [1, 258, 0]);
-    reads_back(&rt, Answer::Two(u64::MAX, 1), [2, u64::MAX, 1]);
+    let two = [
+        2, 0, 0, 0, 0, 0, 0, 0, 2, 1, 0, 0, 0, 0, 0, 0, 255, 255, 255, 255, 255, 255, 255, 255,
+    ];
+    assert_eq!(rt; Answer::Two(258, u64::MAX).to_bytes(), two);
+    reads_back(&rt, Answer::Two(258, u64::MAX), [2, 2, 255]);
+    reads_back(&rt, Answer::Number(7), [1, 7, 0]);
     let refusals = [
         (Refusal::from(Garbled { place: 14 }), 1, 14),
         (Refusal::OutOfRange, 2, 0),
@@ -98,26 +99,25 @@ fn answers(rt: HostRuntime) {
     assert_eq!(rt; Answer::from_bytes(&[3; 24]), None);
 }
 
-/// A head, then a call of one byte, an empty one, one of three, and a length that is cut short.
 #[test]
-fn files(rt: HostRuntime) {
-    let file = b"\x02\0\0\0\x05\x01\0\0\x01\0\0\0\x09\0\0\0\0\x03\0\0\0\x07\x07\x01\0";
+fn heads(rt: HostRuntime) {
     let head = Head {
         rules: 2,
         bound: 261,
     };
-    assert_eq!(rt; read_head(file), Some(head));
-    assert_eq!(rt; read_head(&file[..7]), None);
-    let mut calls = Calls::new(&file[8..]);
+    assert_eq!(rt; read_head(b"\x02\0\0\0\x05\x01\0\0\x09"), Some(head));
+    assert_eq!(rt; read_head(b"\x02\0\0\0\x05\0\0"), None);
+}
+
+/// A call of one byte, an empty one, one of three, and a length that is cut short.
+#[test]
+fn files(rt: HostRuntime) {
+    let mut calls = Calls::new(b"\x01\0\0\0\x09\0\0\0\0\x03\0\0\0\x07\x07\x01\0");
     let all: [&[u8]; 4] = [b"\x09", b"", b"\x07\x07\x01", b""];
     for expected in all {
         assert_eq!(rt; calls.next(), Some(expected));
     }
     assert_eq!(rt; calls.next(), None);
-}
-
-#[test]
-fn a_file_that_ends_inside_a_call(rt: HostRuntime) {
     let cut: (&[u8], &[u8]) = (&[1, 2], &[]);
     assert_eq!(rt; next_call(&[9, 0, 0, 0, 1, 2]), Some(cut));
 }

@@ -5,27 +5,29 @@ use std::process::Abort;
 use std::test::Fail;
 use wire::{Answer, Refusal};
 
-/// An opening that is refused leaves every word as it was. Too many rules come first, then a bound that is too high.
+/// An opening that is refused leaves every word as it was.
+fn not_opened(rt: &impl Abort, words: &mut [u64], rules: u32, bound: u32, refusal: Refusal) {
+    assert_eq!(rt; open(words, rules, bound), Err(refusal));
+    for word in words {
+        assert_eq!(rt; *word, 7);
+    }
+}
+
+/// Too many rules are noticed first, then a bound that is too high, then too few words.
 #[test]
 fn openings(rt: HostRuntime) -> Result<(), Fail> {
-    let refused = [
-        (100, 65, MOST, Refusal::TooManyRules),
-        (0, 65, MOST + 1, Refusal::TooManyRules),
-        (0, 64, MOST + 1, Refusal::BoundTooHigh),
-        (100, 1, MOST + 1, Refusal::BoundTooHigh),
-        (95, 1, MOST, Refusal::MemoryTooSmall),
-        (63, 0, 0, Refusal::MemoryTooSmall),
-    ];
-    let mut words = [7u64; 100];
-    for (size, rules, bound, refusal) in refused {
-        assert!(rt; size <= 100);
-        assert_eq!(rt; open(&mut words[0..size], rules, bound), Err(refusal));
-        assert_eq!(rt; words, [7u64; 100]);
-    }
+    not_opened(&rt, &mut [7; 63], 65, MOST + 1, Refusal::TooManyRules);
+    not_opened(&rt, &mut [7; 63], 64, MOST + 1, Refusal::BoundTooHigh);
+    not_opened(&rt, &mut [7; 63], 64, MOST, Refusal::MemoryTooSmall);
+    not_opened(&rt, &mut [7; 63], 0, 0, Refusal::MemoryTooSmall);
+    let mut words = [7; 97];
     open(&mut words, 1, MOST).ok().ok_or("not opened")?;
-    assert_eq!(rt; &words[0..4], [0x626f_6f6b, 1, 1_000_000_000, 0].as_slice());
-    assert_eq!(rt; &words[4..96], [0u64; 92].as_slice());
-    assert_eq!(rt; &words[96..], [7, 7, 7, 7].as_slice());
+    let mut image = [0; 97];
+    image[0] = 0x626f_6f6b;
+    image[1] = 1;
+    image[2] = 1_000_000_000;
+    image[96] = 7;
+    assert_eq!(rt; words, image);
     Ok(())
 }
 
@@ -102,13 +104,16 @@ fn too_few_words(rt: HostRuntime) -> Result<(), Fail> {
 #[test]
 fn no_room(rt: HostRuntime) -> Result<(), Fail> {
     let mut words = opened(1, 300)?;
-    let mut out = [9u8; 26];
-    assert_eq!(rt; serve(&mut words, &lay(TAKE, 0, 9, 1), &mut out[0..23]), 0);
-    assert_eq!(rt; out, [9u8; 26]);
+    let mut short = [9; 23];
+    assert_eq!(rt; serve(&mut words, &lay(TAKE, 0, 9, 1), &mut short), 0);
+    assert_eq!(rt; short, [9; 23]);
     assert_eq!(rt; words, opened(1, 300)?);
+    let mut out = [9; 25];
     assert_eq!(rt; serve(&mut words, &lay(TAKE, 0, 9, 1), &mut out), 24);
-    assert_eq!(rt; &out[0..24], Answer::Number(0).to_bytes().as_slice());
-    assert_eq!(rt; &out[24..], [9, 9].as_slice());
+    let rule_0 = [
+        1, 0, 0, 0, 0, 0, 0, 0, 0, 0, 0, 0, 0, 0, 0, 0, 0, 0, 0, 0, 0, 0, 0, 0, 9,
+    ];
+    assert_eq!(rt; out, rule_0);
     assert_eq!(rt; words[3], 1);
     Ok(())
 }
