@@ -2,14 +2,15 @@
 use session::{call, open};
 use std::process::Abort;
 use std::test::Fail;
-use wire::{Answer, Refusal};
+use wire::{Answer, lay_bytes, rule_of_kind};
 
+/// The greatest bound that a book may have.
 pub(crate) const MOST: u32 = 1_000_000_000;
 
 /// Words for four rules, and four more.
 pub(crate) const WORDS: usize = 196;
 
-/// Kinds as the bytes of a call have them, which is what is tested here.
+/// Kinds of rules and of calls, as their bytes have them.
 pub(crate) const TAKE: u8 = 0;
 
 pub(crate) const GIVE: u8 = 1;
@@ -35,10 +36,7 @@ pub(crate) fn opened(rules: u32, bound: u32) -> Result<[u64; WORDS], Fail> {
 }
 
 pub(crate) fn lay(kind: u8, from: u32, second: u32, last: u32) -> [u8; 14] {
-    let mut bytes = [0; 14];
-    bytes[1] = kind;
-    bytes[2..].copy_from_slice([from, second, last].map(u32::to_le_bytes).as_flattened());
-    bytes
+    lay_bytes(rule_of_kind(kind, from, second, last))
 }
 
 pub(crate) fn ask(kind: u8, value: u32) -> [u8; 5] {
@@ -66,35 +64,6 @@ pub(crate) fn all_laid(rt: &impl Abort, words: &mut [u64], rules: &[(u8, u32, u3
     }
 }
 
-/// A call that is turned away leaves every word as it was.
-pub(crate) fn refuses(rt: &impl Abort, words: &mut [u64; WORDS], bytes: &[u8], refusal: Refusal) {
-    let before = *words;
-    says(rt, words, bytes, Answer::Refused(refusal));
-    assert_eq!(rt; *words, before);
-}
-
-pub(crate) fn none_asked(
-    rt: &impl Abort,
-    words: &mut [u64; WORDS],
-    calls: &[(u8, u32)],
-    refusal: Refusal,
-) {
-    for (kind, value) in calls {
-        refuses(rt, words, &ask(*kind, *value), refusal);
-    }
-}
-
-pub(crate) fn none_laid(
-    rt: &impl Abort,
-    words: &mut [u64; WORDS],
-    rules: &[(u8, u32, u32, u32)],
-    refusal: Refusal,
-) {
-    for (kind, from, second, last) in rules {
-        refuses(rt, words, &lay(*kind, *from, *second, *last), refusal);
-    }
-}
-
 /// A book of these rules answers so, and no question changes a word of it.
 pub(crate) fn answers(
     rt: &impl Abort,
@@ -108,12 +77,4 @@ pub(crate) fn answers(
     all_say(rt, &mut words, table);
     assert_eq!(rt; words, book);
     Ok(())
-}
-
-/// A book of 64 times one rule, up to the greatest bound.
-pub(crate) fn full_of(rt: &impl Abort, rule: (u8, u32, u32, u32)) -> Result<[u64; 2112], Fail> {
-    let mut words = [7u64; 2112];
-    open(&mut words, 64, MOST).ok().ok_or("not opened")?;
-    all_laid(rt, &mut words, &[rule; 64]);
-    Ok(words)
 }

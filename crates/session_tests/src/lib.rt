@@ -1,19 +1,12 @@
-//! Tests of the session, as tables. They stand in a crate of their own, since a crate with tests is proved twice.
+//! Tests of calls, answers and files as bytes, and of the session, as tables. They stand in a crate of their own, since a crate with
+//! tests is proved twice.
 #![tactic(auto)]
 
 #[cfg(test)]
 mod asking;
 #[cfg(test)]
-mod fades;
+mod bytes;
 #[cfg(test)]
-mod memory;
-#[cfg(test)]
-mod openings;
-#[cfg(test)]
-mod questions;
-#[cfg(test)]
-mod rules;
-#[cfg(test)]
-mod sums;
+mod refusals;
 #[cfg(test)]
 mod worked;
