@@ -2,17 +2,20 @@
 //! taken.
 use crate::books::*;
 use book::Book;
-use losses::{ROW_WORDS, most_lost, read_row, row_from, words_for, write_rows};
+use losses::{ROW_WORDS, most_lost, read_row, row_from, write_rows};
+use lowest::{ENTRY_WORDS, most_entries};
 use raise::LosingRow;
 use safety::safe_from;
 use std::process::Abort;
 use std::test::Fail;
 use wire::{Rule, RuleKind};
 
-/// Words for the rows of 64 rules, of which so many are for the table.
-const WORDS: usize = 1032;
+/// As many segments, and so as many rows, as 64 rules make at most.
+const MOST_SEGMENTS: usize = 129;
 
-const TABLE: usize = 774;
+const TABLE: usize = ENTRY_WORDS * MOST_SEGMENTS;
+
+const ROWS: usize = ROW_WORDS * MOST_SEGMENTS;
 
 fn row(first: u32, last: u32) -> LosingRow {
     LosingRow { first, last }
@@ -20,9 +23,9 @@ fn row(first: u32, last: u32) -> LosingRow {
 
 /// The rows of the book are just these.
 pub(crate) fn lose(rt: &impl Abort, book: &Book, expected: &[(u32, u32)]) {
-    assert!(rt; words_for(book) <= WORDS);
+    assert!(rt; most_entries(book) <= MOST_SEGMENTS);
     let mut table = [7; TABLE];
-    let mut rows = [7; WORDS - TABLE];
+    let mut rows = [7; ROWS];
     let count = write_rows(book, &mut table, &mut rows);
     assert_eq!(rt; count, expected.len());
     let (words, _) = rows.as_chunks::<ROW_WORDS>();
@@ -33,19 +36,20 @@ pub(crate) fn lose(rt: &impl Abort, book: &Book, expected: &[(u32, u32)]) {
 
 /// From each gross on the row is this.
 fn told(rt: &impl Abort, book: &Book, expected: &[(u32, Option<LosingRow>)]) {
-    assert!(rt; words_for(book) <= WORDS);
-    let mut scratch = [7; WORDS];
+    assert!(rt; most_entries(book) <= MOST_SEGMENTS);
+    let mut table = [7; TABLE];
+    let mut rows = [7; ROWS];
     for (gross, row) in expected {
-        assert_eq!(rt; row_from(book, &mut scratch, *gross), *row);
+        assert_eq!(rt; row_from(book, &mut table, &mut rows, *gross), *row);
     }
 }
 
 /// Of those from the one gross to the other nobody loses more than this.
 pub(crate) fn most(rt: &impl Abort, book: &Book, expected: &[(u32, u32, u64)]) {
-    assert!(rt; words_for(book) <= WORDS);
-    let mut scratch = [7; WORDS];
+    assert!(rt; most_entries(book) <= MOST_SEGMENTS);
+    let mut table = [7; TABLE];
     for (first, last, most) in expected {
-        assert_eq!(rt; most_lost(book, &mut scratch, row(*first, *last)), *most);
+        assert_eq!(rt; most_lost(book, &mut table, row(*first, *last)), *most);
     }
 }
 

@@ -1,18 +1,21 @@
 //! What is told of each gross, beside what is found by trying every earning.
 use crate::books::*;
 use book::Book;
-use losses::{row_from, words_for};
+use losses::{ROW_WORDS, row_from};
+use lowest::{ENTRY_WORDS, most_entries};
 use safety::safe_from;
 use std::process::Abort;
 use std::test::Fail;
 use wire::RuleKind;
 
-/// Words for the rows of nine rules.
-const WORDS: usize = 152;
+/// As many segments, and so as many rows, as nine rules make at most.
+const MOST: usize = 19;
 
-fn gross_as_tried(rt: &impl Abort, book: &Book, scratch: &mut [u64; WORDS], gross: u32) {
-    assert!(rt; words_for(book) <= WORDS);
-    let row = row_from(book, scratch, gross);
+fn gross_as_tried(rt: &impl Abort, book: &Book, gross: u32) {
+    assert!(rt; most_entries(book) <= MOST);
+    let mut table = [7; ENTRY_WORDS * MOST];
+    let mut rows = [7; ROW_WORDS * MOST];
+    let row = row_from(book, &mut table, &mut rows, gross);
     assert_eq!(rt; row, reference::row_from(book, gross));
     assert_eq!(rt; safe_from(book, gross), reference::safe_from(book, gross));
 }
@@ -35,9 +38,8 @@ fn runs_of_rules(rt: HostRuntime) -> Result<(), Fail> {
     for from in 0..9 {
         for to in from + 1..=9 {
             let book = book_with(22, &rules[from..to])?;
-            let mut scratch = [7; WORDS];
             for gross in 0..=23 {
-                gross_as_tried(&rt, &book, &mut scratch, gross);
+                gross_as_tried(&rt, &book, gross);
             }
         }
     }
