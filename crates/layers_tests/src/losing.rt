@@ -106,7 +106,8 @@ fn two_rules_together(rt: HostRuntime) -> Result<(), Fail> {
     all_lose(&rt, &[(40, &rules[..1], &[]), (40, &rules, &[(9, 19)])])
 }
 
-/// Whoever earns 960 has more with one unit more, and 20 less with 100 more: 940 are left of 1,060, and of 960 again from 1,080 on.
+/// Whoever earns 960 has more with one unit more, and 20 less with 100 more: 940 are left of 1,060, and of
+/// 1,080 as much as of 960.
 #[test]
 fn not_by_the_next_unit(rt: HostRuntime) -> Result<(), Fail> {
     let book = book_with(2_000, &[RuleKind::Take.rule([1_000, 1_060, 20_000])])?;

@@ -1,6 +1,6 @@
 //! Which rules are in range, and rules of every kind in the words of a book.
 use crate::books::*;
-use book::{Book, Flows, is_fine, open_empty, read_book, words_asked, write_book};
+use book::{Flows, is_fine, read_book, words_asked, write_book};
 use std::process::Abort;
 use std::test::Fail;
 use wire::RuleKind;
@@ -42,50 +42,29 @@ fn in_range(rt: HostRuntime) {
     ranges(&rt, &[RuleKind::Fade], &fades);
 }
 
-fn lay(rt: &impl Abort, book: &mut Book, kind: RuleKind, number: Option<u32>) -> Result<(), Fail> {
-    let rule = kind.rule([10, 20, 30]);
-    if !is_fine(rule) {
-        return Err(Fail::new("out of range"));
-    }
-    assert_eq!(rt; book.lay(rule), number);
-    Ok(())
-}
-
-/// The book is written, and read from the words.
-fn written(words: &mut [u64], book: &Book) -> Result<Book, Fail> {
-    if words.len() < words_asked(book.limit()) {
-        return Err(Fail::new("too few words"));
-    }
-    write_book(words, book);
-    Ok(read_book(words).ok_or("no book")?)
-}
-
-/// A rule of each kind is laid; one too many is not. They are in their slots, zeros behind them, and other words behind those.
+/// A rule of each kind in its slot, zeros behind them, and other words behind those.
 #[test]
 fn in_words(rt: HostRuntime) -> Result<(), Fail> {
-    let mut words = [9u64; 226];
-    open_empty(&mut words, 5, 300);
-    let mut book = read_book(&words).ok_or("no book")?;
-    let kinds = [
-        (RuleKind::Take, Some(0)),
-        (RuleKind::Give, Some(1)),
-        (RuleKind::TakeSum, Some(2)),
-        (RuleKind::GiveSum, Some(3)),
-        (RuleKind::Fade, Some(4)),
-        (RuleKind::Take, None),
+    let rules = [
+        RuleKind::Take.rule([10, 20, 30]),
+        RuleKind::Give.rule([10, 20, 30]),
+        RuleKind::TakeSum.rule([10, 20, 30]),
+        RuleKind::GiveSum.rule([10, 20, 30]),
+        RuleKind::Fade.rule([10, 20, 30]),
     ];
-    for (kind, number) in kinds {
-        lay(&rt, &mut book, kind, number)?;
-    }
-    let book = written(&mut words, &book)?;
-    assert_eq!(rt; &words[..4], [0x626f_6f6b, 5, 300, 5].as_slice());
+    let book = book_with(300, &rules)?;
+    let mut words = [9; 2113];
+    assert!(rt; words_asked(book.limit()) <= 2113);
+    write_book(&mut words, &book);
+    assert_eq!(rt; &words[..4], [0x626f_6f6b, 64, 300, 5].as_slice());
     let slots = [
-        0, 10, 20, 30, 1, 10, 20, 30, 2, 10, 20, 30, 3, 10, 20, 30, 4, 10, 20, 30,
+        0, 10, 20, 30, 1, 10, 20, 30, 2, 10, 20, 30, 3, 10, 20, 30, 4, 10, 20, 30, 0,
     ];
-    assert_eq!(rt; &words[4..24], slots.as_slice());
-    assert_eq!(rt; book.scratch(), 24..224);
-    assert_eq!(rt; &words[book.scratch()], [0u64; 200].as_slice());
-    assert_eq!(rt; &words[224..], [9, 9].as_slice());
+    assert_eq!(rt; &words[4..25], slots.as_slice());
+    assert_eq!(rt; [words[2111], words[2112]], [0, 9]);
+    let book = read_book(&words).ok_or("no book")?;
+    assert_eq!(rt; book.scratch(), 260..2112);
+    assert_eq!(rt; book.rules(), rules.as_slice());
     Ok(())
 }
 
@@ -98,11 +77,8 @@ fn lifted(rt: HostRuntime) -> Result<(), Fail> {
         outflow: 998_000,
     };
     assert_eq!(rt; book.flows_of(1_499), flows);
-    assert_eq!(rt; book.lift(4), None);
     assert_eq!(rt; book.lift(2), Some(2));
     assert_eq!(rt; book.net_of(1_499), 13_995_000);
-    assert_eq!(rt; book.bound(), 5_000);
-    assert_eq!(rt; book.rules().len(), 3);
     assert_eq!(rt; book.rule(2), Some(RuleKind::Fade.rule([500, 3_000, 300])));
     assert_eq!(rt; book.rule(3), None);
     Ok(())

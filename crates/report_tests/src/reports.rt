@@ -127,90 +127,70 @@ at most two decimals before %";
 const RANGES: &str =
     "borders up to 1000000000, the first below the second; a rate up to 200 %, a sum up to 100000000";
 
-const BOUND: &str = "a bound up to 1000000000";
+/// What stands before the first line that doesn't fit, the line, which it is, and the number of its refusal.
+type Misfit<'a> = (&'a str, &'a str, u32, u32);
 
-const ONE_BOUND: &str = "one bound at most, before the first rule";
-
-const NEWLINES: &str = "lines that end with a newline";
-
-/// The first line that doesn't fit is shown as it stands, whatever comes after it, and whichever earnings are named.
-#[test]
-fn no_lines(rt: HostRuntime) -> Result<(), Fail> {
-    let table = [
-        (
-            "bound 40\n# a\n\n  take 20% from 1 to 2 # b\nd",
-            1,
-            4,
-            "  take 20% from 1 to 2 # b",
-            FORMS,
-        ),
-        ("tåke 5 from 1 on", 1, 1, "tåke 5 from 1 on", FORMS),
-        (
-            "bound 40\r\ngive 5 below 0\r\n",
-            2,
-            2,
-            "give 5 below 0",
-            RANGES,
-        ),
-        (
-            "take 200.01 % from 1 to 2",
-            2,
-            1,
-            "take 200.01 % from 1 to 2",
-            RANGES,
-        ),
-        (
-            "fade 5 at 5 % above 1000000001",
-            2,
-            1,
-            "fade 5 at 5 % above 1000000001",
-            RANGES,
-        ),
-        ("bound 1000000001", 3, 1, "bound 1000000001", BOUND),
-        (
-            "bound 9\nbound 1000000001",
-            1,
-            2,
-            "bound 1000000001",
-            ONE_BOUND,
-        ),
-        ("take 5 from 1 on\nbound 9\n", 1, 2, "bound 9", ONE_BOUND),
-        (
-            "bound 9\n# a\rtake 5 from 1 on",
-            1,
-            2,
-            "# a\rtake 5 from 1 on",
-            NEWLINES,
-        ),
-        ("take 5 from 1 on\r", 1, 1, "take 5 from 1 on\r", NEWLINES),
-    ];
-    for (file, number, line, shown, expected) in table {
+/// It is shown as it stands, whatever comes after it, and whichever earnings are named.
+fn refused(
+    rt: &(impl Abort + AllocGlobal),
+    table: &[Misfit<'_>],
+    expected: &str,
+) -> Result<(), Fail> {
+    for (before, line, place, number) in table {
+        let file = format!(in rt.alloc(); "{before}{line}\nnor is this")?;
         let message = format!(in rt.alloc();
-            "cliffs: refused {number} at line {line}: {shown}\nexpected {expected}\n"
+            "cliffs: refused {number} at line {place}: {line}\nexpected {expected}\n"
         )?;
-        prints(&rt, file, &["no"], Err(&message))?;
+        prints(rt, &file, &["nor this"], Err(&message))?;
     }
     Ok(())
 }
 
-/// Sixteen times a hundredth of each of ten units is taken. A seventeenth rule is refused by 5, but by 2 where it is out of range.
+#[test]
+fn no_lines(rt: HostRuntime) -> Result<(), Fail> {
+    let unreadable = [
+        ("bound 40\n# a\n\n", "  take 20% from 1 to 2 # b", 4, 1),
+        ("", "tåke 5 from 1 on", 1, 1),
+    ];
+    refused(&rt, &unreadable, FORMS)?;
+    let out_of_range = [
+        ("bound 40\r\n", "give 5 below 0", 2, 2),
+        ("", "take 200.01 % from 1 to 2", 1, 2),
+        ("", "fade 5 at 5 % above 1000000001", 1, 2),
+    ];
+    refused(&rt, &out_of_range, RANGES)?;
+    let too_high = [("", "bound 1000000001", 1, 3)];
+    refused(&rt, &too_high, "a bound up to 1000000000")?;
+    let too_late = [
+        ("bound 9\n", "bound 1000000001", 2, 1),
+        ("take 5 from 1 on\n", "bound 9", 2, 1),
+    ];
+    refused(&rt, &too_late, "one bound at most, before the first rule")?;
+    // where carriage returns end lines, a comment would hide all that follows it
+    let returns = [("bound 9\n", "# a\rtake 5 from 1 on", 2, 1)];
+    refused(&rt, &returns, "lines that end with a newline")
+}
+
+/// Sixteen times a hundredth of each of ten units is taken.
+const SIXTEEN: &str = "\
+bound 40
+take 1 % from 0 to 10\ntake 1 % from 0 to 10\ntake 1 % from 0 to 10\ntake 1 % from 0 to 10
+take 1 % from 0 to 10\ntake 1 % from 0 to 10\ntake 1 % from 0 to 10\ntake 1 % from 0 to 10
+take 1 % from 0 to 10\ntake 1 % from 0 to 10\ntake 1 % from 0 to 10\ntake 1 % from 0 to 10
+take 1 % from 0 to 10\ntake 1 % from 0 to 10\ntake 1 % from 0 to 10\ntake 1 % from 0 to 10
+";
+
+/// A seventeenth rule is refused by 5, but by 2 where it is out of range.
 #[test]
 fn sixteen_rules(rt: HostRuntime) -> Result<(), Fail> {
-    let mut file = String::from_str(rt.alloc(), "bound 40\n")?;
-    for _ in 0..16 {
-        file.push_str("take 1 % from 0 to 10\n")?;
-    }
     let told = "none\n10: 8.4000 left, never loses by earning more\n";
-    prints(&rt, &file, &["10"], Ok(told))?;
-    for (line, number, expected) in [
-        ("give 1 below 5", 5, "16 rules at most"),
-        ("give 1 below 0", 2, RANGES),
-    ] {
-        let more = format!(in rt.alloc(); "{file}{line}")?;
-        let message = format!(in rt.alloc();
-            "cliffs: refused {number} at line 18: {line}\nexpected {expected}\n"
-        )?;
-        prints(&rt, &more, &["10"], Err(&message))?;
-    }
-    Ok(())
+    prints(&rt, SIXTEEN, &["10"], Ok(told))?;
+    let full = format!(in rt.alloc(); "{SIXTEEN}give 1 below 5")?;
+    let message = "cliffs: refused 5 at line 18: give 1 below 5\nexpected 16 rules at most\n";
+    prints(&rt, &full, &["10"], Err(message))?;
+    let out_of_range = format!(in rt.alloc(); "{SIXTEEN}give 1 below 0")?;
+    let message = format!(in rt.alloc();
+        "cliffs: refused 2 at line 18: give 1 below 0\nexpected {RANGES}\n"
+    )?;
+    prints(&rt, &out_of_range, &["10"], Err(&message))
 }

@@ -53,20 +53,14 @@ fn rows_and_earnings(rt: HostRuntime) -> Result<(), Fail> {
     };
     let told = "1101 to 1499, up to 199.5000 less";
     assert_eq!(rt; row.to_string(rt.alloc())?.as_str(), told);
-    let loses = |gross| Outlook::Loses { safe_from: gross };
+    let safe = "1300: -0.5000 left, loses by earning more, safe from 1625";
+    let never_safe = "1300: -0.5000 left, loses by earning more, never safe";
+    let never_loses = "1300: -0.5000 left, never loses by earning more";
+    let safe_from = Some(1625);
     let table = [
-        (
-            loses(Some(1625)),
-            "1300: -0.5000 left, loses by earning more, safe from 1625",
-        ),
-        (
-            loses(None),
-            "1300: -0.5000 left, loses by earning more, never safe",
-        ),
-        (
-            Outlook::NeverLoses,
-            "1300: -0.5000 left, never loses by earning more",
-        ),
+        (Outlook::Loses { safe_from }, safe),
+        (Outlook::Loses { safe_from: None }, never_safe),
+        (Outlook::NeverLoses, never_loses),
     ];
     let left = Amount {
         inflow: 5000,
