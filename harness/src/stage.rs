@@ -5,7 +5,6 @@ use std::collections::BTreeMap;
 use std::fs::{self, File};
 use std::io::{self, Write};
 use std::num::NonZero;
-use std::os::unix::fs::symlink;
 use std::os::unix::process::ExitStatusExt;
 use std::path::{Path, PathBuf};
 use std::process::{Child, Command, ExitStatus, Stdio};
@@ -91,6 +90,16 @@ impl Run {
     }
 }
 
+/// The files of a folder, in another: the prover takes no link anywhere in its repository.
+fn copy(folder: &Path, to: &Path) -> io::Result<()> {
+    fs::create_dir(to)?;
+    for entry in fs::read_dir(folder)? {
+        let entry = entry?;
+        fs::copy(entry.path(), to.join(entry.file_name()))?;
+    }
+    Ok(())
+}
+
 impl Stage {
     /// An empty folder but for the run's files.
     fn set(&self, name: &str, golden: &Golden) -> io::Result<PathBuf> {
@@ -103,7 +112,7 @@ impl Stage {
             fs::write(folder.join(name), bytes)?;
         }
         if let Some((beside, name)) = self.beside.as_ref().and_then(|beside| Some((beside, beside.file_name()?))) {
-            symlink(beside, folder.join(name))?;
+            copy(beside, &folder.join(name))?;
         }
         Ok(folder)
     }

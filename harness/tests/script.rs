@@ -4,7 +4,7 @@ use std::env;
 use std::fs::{self, File, Permissions};
 use std::os::unix::fs::{PermissionsExt, symlink};
 use std::path::{Path, PathBuf};
-use std::process::{Command, Stdio};
+use std::process::{self, Command, Stdio};
 use std::sync::{Mutex, MutexGuard};
 use std::thread;
 use std::time::{Duration, SystemTime};
@@ -34,7 +34,9 @@ const TURNS: [&str; 4] = [
 /// One at a time: a program can't be started while another thread starts one and has this one's file still open to write it.
 static TURN: Mutex<()> = Mutex::new(());
 
+/// It lies outside of the repository, where a kit would take it for a part of that, and goes when it is done with.
 struct Clone {
+    folder: PathBuf,
     top: PathBuf,
     path: String,
     _turn: MutexGuard<'static, ()>,
@@ -54,10 +56,16 @@ fn write_program(path: &Path, text: &str) {
     fs::write(path, text).and_then(|()| fs::set_permissions(path, Permissions::from_mode(0o755))).expect("a program");
 }
 
+impl Drop for Clone {
+    fn drop(&mut self) {
+        drop(fs::remove_dir_all(&self.folder));
+    }
+}
+
 impl Clone {
     fn new(name: &str) -> Self {
         let turn = TURN.lock().unwrap_or_else(|poisoned| poisoned.into_inner());
-        let folder = Path::new(env!("CARGO_TARGET_TMPDIR")).join("script").join(name);
+        let folder = env::temp_dir().join(format!("cliffs-{}-{name}", process::id()));
         let (top, kit) = (folder.join("a clone"), folder.join("kit"));
         drop(fs::remove_dir_all(&folder));
         fs::create_dir_all(&kit).expect("a folder");
@@ -68,7 +76,7 @@ impl Clone {
         fs::copy(Path::new(env!("CARGO_MANIFEST_DIR")).join("../cliffs"), top.join("cliffs")).expect("the script");
         write_program(&kit.join("rt"), KIT);
         let path = format!("{}:{}", kit.display(), path());
-        Self { top, path, _turn: turn }
+        Self { folder, top, path, _turn: turn }
     }
 
     fn command(&self, words: &[&str]) -> Command {
