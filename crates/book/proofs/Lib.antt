@@ -4,3 +4,4 @@ pub mod Places
 pub mod Writes
 pub mod Laws
 pub mod Values
+pub mod Fields

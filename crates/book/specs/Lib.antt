@@ -2,3 +2,4 @@ pub mod Held
 pub mod Meant
 pub mod Value
 pub mod Slots
+pub mod Fields

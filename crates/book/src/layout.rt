@@ -1,13 +1,15 @@
 //! The layout of a book in lent words: a front of four words, a slot for each rule up to the limit, and scratch.
-ghost use Rattle.std.specs.Prelude.{◌≡◌, ◌+◌, ◌*◌, ◌≤◌, ◌<◌, [], ◌++◌, length, drop, Some, None, slice_index};
+ghost use Rattle.std.specs.Prelude.{◌≡◌, ◌+◌, ◌*◌, ◌≤◌, ◌<◌, true, [], ◌++◌, length, drop, IfSome, Some, None, slice_index};
 ghost use Rattle.raise.specs.Rules.{pick};
-ghost use Rattle.book.specs.Held.{asked, width, scratch_from, image, rules_of, book_of, head_fine, ReadsBack, HoldsGood, ImagesDiffer};
-ghost use Rattle.book.specs.Meant.{meant_list};
-ghost use Rattle.book.specs.Value.{ReadIf};
+ghost use Rattle.raise.specs.Calls.{lays, lifts, changed, fine};
+ghost use Rattle.wire.specs.Meaning.{meant};
+ghost use Rattle.book.specs.Held.{asked, width, scratch_from, image, rules_of, book_of, head_fine, rewritten, has_room, has_rule, ReadsBack, HoldsGood, ImagesDiffer};
+ghost use Rattle.book.specs.Meant.{all_meant, first_meant};
+ghost use Rattle.book.specs.Value.{ReadFrom, ReadIf};
+ghost use Rattle.book.specs.Fields.{AreFirst};
 
 use crate::slots::{SLOT, read_slot, slot_of};
-use crate::value::{Book, MOST_RULES};
-use arrayvec::ArrayVec;
+use crate::value::{BLANK, Book, MOST_RULES};
 use std::ops::Range;
 use wire::Rule;
 
@@ -52,16 +54,17 @@ fn read_front(words: &[u64]) -> Option<Front>
     })
 }
 
-/// The rules of the first slots, if each holds one.
-fn read_rules(words: &[u64], count: usize) -> Option<ArrayVec<Rule, MOST_RULES>>
+/// The rules of the first slots, if each holds one, and blanks behind them.
+fn read_rules(words: &[u64], count: usize) -> Option<[Rule; MOST_RULES]>
     requires few { count ≤ 64 }
     requires long { 4 + width * count ≤ length words.now }
-    ensures { meant_list result ≡ rules_of width (drop 4 words.now) count }
+    ensures rules { first_meant count result ≡ rules_of width (drop 4 words.now) count }
+    ensures rest { IfSome result (AreFirst count) }
 {
     let (slots, _) = words[FRONT..].as_chunks::<SLOT>();
-    let mut rules = ArrayVec::new();
-    for slot in &slots[..count] {
-        rules.push(read_slot(slot)?);
+    let mut rules = [BLANK; MOST_RULES];
+    for (i, slot) in slots[..count].iter().enumerate() {
+        rules[i] = read_slot(slot)?;
     }
     Some(rules)
 }
@@ -75,6 +78,7 @@ fn read_whole(words: &[u64]) -> Option<Book>
     Some(Book {
         limit: front.limit,
         bound: front.bound,
+        count: front.count,
         rules,
     })
 }
@@ -91,24 +95,29 @@ pub fn read_book(words: &[u64]) -> Option<Book>
     read_whole(words)
 }
 
-/// The book's image, in the first words; the words beyond stay. Only here is a book written to words.
-pub fn write_book(words: &mut [u64], book: &Book)
-    requires { asked book.now.limit ≤ length words.old }
-    ensures { words.new ≡ image book.now ++ drop (asked book.now.limit) words.old }
+/// The image of a book with these limits and rules, in the first words, whether or not such words hold a book; the words beyond stay.
+/// Only here is an image written.
+pub fn write_image(words: &mut [u64], limit: u32, bound: u32, rules: &[Rule])
+    requires few { limit ≤ 64 }
+    requires room { length rules.now ≤ limit }
+    requires long { asked limit ≤ length words.old }
+    ensures { words.new ≡ image (record { limit = limit; bound = bound; rules = all_meant rules.now }) ++ drop (asked limit) words.old }
 {
-    let rules = book.rules();
-    words[..FRONT].copy_from_slice(&[
-        TAG,
-        book.limit.into(),
-        book.bound.into(),
-        rules.len() as u64,
-    ]);
+    words[..FRONT].copy_from_slice(&[TAG, limit.into(), bound.into(), rules.len() as u64]);
     // By places, since the library says nothing of what a slice ends as whose chunks are written.
     for (i, rule) in rules.iter().enumerate() {
         let at = FRONT + SLOT * i;
         words[at..at + SLOT].copy_from_slice(&slot_of(*rule));
     }
-    words[FRONT + SLOT * rules.len()..words_asked(book.limit)].fill(0);
+    words[FRONT + SLOT * rules.len()..words_asked(limit)].fill(0);
+}
+
+/// The book's image, in the first words; the words beyond stay.
+pub fn write_book(words: &mut [u64], book: &Book)
+    requires { asked book.now.limit ≤ length words.old }
+    ensures { words.new ≡ image book.now ++ drop (asked book.now.limit) words.old }
+{
+    write_image(words, book.limit, book.bound, book.rules());
 }
 
 /// A book without rules, in the first words; the words beyond stay. Its limits come as the two numbers of an opening, for which
@@ -120,6 +129,31 @@ pub fn open_empty(words: &mut [u64], limit: u32, bound: u32)
     ensures { words.new ≡ image (record { limit = limit; bound = bound; rules = [] }) ++ drop (asked limit) words.old }
 {
     write_book(words, &Book::new(limit, bound));
+}
+
+/// One rule more, as the last, in the words that the book was read from: its number, if there is room for it. Where there is none,
+/// nothing is written.
+pub fn lay(words: &mut [u64], mut book: Book, rule: Rule) -> Option<u32>
+    requires book { ReadFrom words.old book }
+    requires fine { fine (meant rule) ≡ true }
+    ensures number { result ≡ pick (has_room book) (Some (length book.rules)) None }
+    ensures words { words.new ≡ pick (has_room book) (rewritten words.old book (changed book.rules (lays (meant rule)))) words.old }
+{
+    let number = book.lay(rule)?;
+    write_book(words, &book);
+    Some(number)
+}
+
+/// The i-th rule goes from the words that the book was read from, and those after it move down one: its number, if there is such a
+/// rule. Where there is none, nothing is written.
+pub fn lift(words: &mut [u64], mut book: Book, i: u32) -> Option<u32>
+    requires { ReadFrom words.old book }
+    ensures number { result ≡ pick (has_rule book i) (Some i) None }
+    ensures words { words.new ≡ pick (has_rule book i) (rewritten words.old book (changed book.rules (lifts i))) words.old }
+{
+    let number = book.lift(i)?;
+    write_book(words, &book);
+    Some(number)
 }
 
 impl Book {

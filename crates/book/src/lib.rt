@@ -9,6 +9,6 @@ mod rules;
 mod slots;
 mod value;
 
-pub use layout::{open_empty, read_book, words_asked, write_book};
+pub use layout::{lay, lift, open_empty, read_book, words_asked, write_book, write_image};
 pub use rules::{Flows, is_fine};
 pub use value::Book;

@@ -7,34 +7,46 @@ ghost use Rattle.wire.specs.Meaning.{meant};
 ghost use Rattle.book.specs.Held.{with_rules, has_room, has_rule, Within};
 ghost use Rattle.book.specs.Meant.{all_meant, meant_if};
 
-use arrayvec::ArrayVec;
 use std::marker::Model;
 use wire::Rule;
 
 /// The most rules that any book may hold.
 pub(crate) const MOST_RULES: usize = 64;
 
-/// How many rules it may hold, up to what earning it is asked, and the rules, in the order in which they were laid. Every
-/// book is within limits: at most 64 rules, a bound of at most 1,000,000,000, and every rule in range. The rules lie in the
-/// value itself, since nothing here may ask the heap.
-#[derive(Clone, Debug, Drop)]
+/// Stands where there is no rule.
+pub(crate) const BLANK: Rule = Rule::Take {
+    from: 0,
+    to: 0,
+    rate: 0,
+};
+
+/// How many rules it may hold, up to what earning it is asked, and the rules, the first `count` of the array, in the order in which
+/// they were laid. Every book is within limits: at most 64 rules, a bound of at most 1,000,000,000, and every rule in range. The
+/// rules lie in the value itself, since nothing here may ask the heap. Behind them every place is blank: so its limits and its rules
+/// tell all fields, without which a value can't be copied.
+#[derive(Clone, Copy, Debug)]
 pub struct Book {
     pub(crate) limit: u32,
     pub(crate) bound: u32,
-    pub(crate) rules: ArrayVec<Rule, MOST_RULES>,
+    pub(crate) count: usize,
+    pub(crate) rules: [Rule; MOST_RULES],
 }
 
 impl Model for Book {
     ghost use Rattle.book.specs.Held as held;
-    ghost use Rattle.book.specs.Held.{Good};
 
     ghost Value = { held.Book };
 
     ghost use Rattle.book.specs.Value.{stands_for};
+    ghost use Rattle.book.specs.Fields.{Kept, fields_of, given_back};
 
     ghost view = { stands_for };
 
-    ghost invariant = { λ b. Good (stands_for b) };
+    ghost invariant = { Kept };
+
+    ghost inverse = { fields_of };
+
+    ghost inverse_ok = { given_back };
 }
 
 impl Book {
@@ -48,7 +60,8 @@ impl Book {
         Book {
             limit,
             bound,
-            rules: ArrayVec::new(),
+            count: 0,
+            rules: [BLANK; MOST_RULES],
         }
     }
 
@@ -74,7 +87,7 @@ impl Book {
         ensures few { length result.now ≤ 64 }
         ensures within { Within self.now.rules }
     {
-        self.rules.as_slice()
+        &self.rules[..self.count]
     }
 
     /// The i-th rule, counted from 0, if there is one.
@@ -85,17 +98,17 @@ impl Book {
     }
 
     /// One rule more, as the last: its number, if there is room for it.
-    #[tactic(auto, using(std::proofs::lemmas::List::map_push), unfolding(raise::specs::Calls::changed))]
     pub fn lay(&mut self, rule: Rule) -> Option<u32>
         requires { fine (meant rule) ≡ true }
         ensures number { result ≡ pick (has_room self.old) (Some (length self.old.rules)) None }
         ensures book { self.new ≡ pick (has_room self.old) (with_rules self.old (changed self.old.rules (lays (meant rule)))) self.old }
     {
-        let number = self.rules.len() as u32;
+        let number = self.count as u32;
         if number >= self.limit {
             return None;
         }
-        self.rules.push(rule);
+        self.rules[self.count] = rule;
+        self.count += 1;
         Some(number)
     }
 
@@ -105,11 +118,12 @@ impl Book {
         ensures book { self.new ≡ pick (has_rule self.old i) (with_rules self.old (changed self.old.rules (lifts i))) self.old }
     {
         let place = i as usize;
-        let count = self.rules.len();
-        if place >= count {
+        if place >= self.count {
             return None;
         }
-        self.rules.remove(place);
+        self.rules[place..self.count].rotate_left(1);
+        self.count -= 1;
+        self.rules[self.count] = BLANK;
         Some(i)
     }
 }

@@ -1,6 +1,6 @@
 //! Which rules are in range, and rules of every kind in the words of a book.
 use crate::books::*;
-use book::{Flows, is_fine, read_book, words_asked, write_book};
+use book::{Flows, is_fine, lay, lift, open_empty, read_book, words_asked, write_book};
 use std::process::Abort;
 use std::test::Fail;
 use wire::RuleKind;
@@ -81,5 +81,37 @@ fn lifted(rt: HostRuntime) -> Result<(), Fail> {
     assert_eq!(rt; book.net_of(1_499), 13_995_000);
     assert_eq!(rt; book.rule(2), Some(RuleKind::Fade.rule([500, 3_000, 300])));
     assert_eq!(rt; book.rule(3), None);
+    Ok(())
+}
+
+/// A rule is laid where the words are, a second has no room, and the first is lifted.
+#[test]
+fn in_place(rt: HostRuntime) -> Result<(), Fail> {
+    let rule = RuleKind::Take.rule([10, 20, 30]);
+    assert!(rt; is_fine(rule));
+    let mut words = [9; 97];
+    open_empty(&mut words, 1, 50);
+    let book = read_book(&words).ok_or("no book")?;
+    assert_eq!(rt; lay(&mut words, book, rule), Some(0));
+    let laid = [0x626f_6f6b, 1, 50, 1, 0, 10, 20, 30, 0];
+    assert_eq!(rt; &words[..9], laid.as_slice());
+    let book = read_book(&words).ok_or("no book")?;
+    assert_eq!(rt; lay(&mut words, book, rule), None);
+    assert_eq!(rt; &words[..9], laid.as_slice());
+    assert_eq!(rt; lift(&mut words, book, 0), Some(0));
+    let lifted = [0x626f_6f6b, 1, 50, 0, 0, 0, 0, 0, 0];
+    assert_eq!(rt; &words[..9], lifted.as_slice());
+    assert_eq!(rt; [words[95], words[96]], [0, 9]);
+    Ok(())
+}
+
+/// What is lifted from a copy stays in the book that was copied.
+#[test]
+fn copied(rt: HostRuntime) -> Result<(), Fail> {
+    let book = family()?;
+    let mut copy = book;
+    assert_eq!(rt; copy.lift(2), Some(2));
+    assert_eq!(rt; book.rule(2), Some(RuleKind::GiveSum.rule([0, 1_500, 200])));
+    assert_eq!(rt; book.rule(3), copy.rule(2));
     Ok(())
 }
